@@ -6,7 +6,7 @@ use Prim.Native.Nat.{ℕ, zero, suc, _+_, _-_, _*_, _/_, _%_, _^_, _<_, _≤_}
 use native.Mathlib.Nat.{pow-suc, mod-lt, div-eq-of-lt, add-mul, one-mul, zero-add}
 use native.Mathlib.Numerals.{add-one}
 use native.Mathlib.Omega.{arith}
-use lib.Bits.{bitOr, bitXor, or-shr, or-mod, xor-shr, xor-mod}
+use lib.Bits.{bitAnd, bitOr, bitXor, and-shr, and-mod, or-shr, or-mod, xor-shr, xor-mod}
 use lib.Dec.{eqb}
 use lib.Pow.{pow-pos, pow-lt, pow-add, high, split}
 use Rattle.std.proofs.shelf.Tests.{cases-order, eq-eqb, ne-eqb}
@@ -51,22 +51,27 @@ bit-pow n i =
 
 -- an operation on digits acts on bits as a test does, if it does so on 0 and 1
 by-digits : (op : ℕ → ℕ → ℕ) (test : Bool → Bool → Bool) →
-    op 0 0 ≡ 0 → op 0 1 ≡ 1 → test false false ≡ false → test false true ≡ true → eqb (op 1 0) 1 ≡ test true false → eqb (op 1 1) 1 ≡ test true true →
+    eqb (op 0 0) 1 ≡ test false false → eqb (op 0 1) 1 ≡ test false true → eqb (op 1 0) 1 ≡ test true false → eqb (op 1 1) 1 ≡ test true true →
     (x y : ℕ) → x < 2 → y < 2 → eqb (op x y) 1 ≡ test (eqb x 1) (eqb y 1)
-by-digits op test a b c d e f zero zero h l = ap (λ z. eqb z 1) a ∙ sym c
-by-digits op test a b c d e f zero (suc zero) h l = ap (λ z. eqb z 1) b ∙ sym d
-by-digits op test a b c d e f (suc zero) zero h l = e
-by-digits op test a b c d e f (suc zero) (suc zero) h l = f
-by-digits op test a b c d e f (suc (suc x)) y h l = absurd (omega arith)
-by-digits op test a b c d e f zero (suc (suc y)) h l = absurd (omega arith)
-by-digits op test a b c d e f (suc zero) (suc (suc y)) h l = absurd (omega arith)
+by-digits op test a b c d zero zero h l = a
+by-digits op test a b c d zero (suc zero) h l = b
+by-digits op test a b c d (suc zero) zero h l = c
+by-digits op test a b c d (suc zero) (suc zero) h l = d
+by-digits op test a b c d (suc (suc x)) y h l = absurd (omega arith)
+by-digits op test a b c d zero (suc (suc y)) h l = absurd (omega arith)
+by-digits op test a b c d (suc zero) (suc (suc y)) h l = absurd (omega arith)
+
+pub bit-and : (a b i : ℕ) → bit (bitAnd a b) i ≡ (bit a i && bit b i)
+bit-and a b i =
+    let digits : bitAnd a b / 2 ^ i % 2 ≡ bitAnd (a / 2 ^ i % 2) (b / 2 ^ i % 2) = ap (λ x. x % 2) (and-shr a b i) ∙ and-mod (a / 2 ^ i) (b / 2 ^ i) 1 in
+    ap (λ x. eqb x 1) digits ∙ by-digits bitAnd _&&_ refl refl refl refl _ _ (mod-lt _ (omega arith)) (mod-lt _ (omega arith))
 
 pub bit-or : (a b i : ℕ) → bit (bitOr a b) i ≡ (bit a i || bit b i)
 bit-or a b i =
     let digits : bitOr a b / 2 ^ i % 2 ≡ bitOr (a / 2 ^ i % 2) (b / 2 ^ i % 2) = ap (λ x. x % 2) (or-shr a b i) ∙ or-mod (a / 2 ^ i) (b / 2 ^ i) 1 in
-    ap (λ x. eqb x 1) digits ∙ by-digits bitOr _||_ refl refl refl refl refl refl _ _ (mod-lt _ (omega arith)) (mod-lt _ (omega arith))
+    ap (λ x. eqb x 1) digits ∙ by-digits bitOr _||_ refl refl refl refl _ _ (mod-lt _ (omega arith)) (mod-lt _ (omega arith))
 
 pub bit-xor : (a b i : ℕ) → bit (bitXor a b) i ≡ unlike (bit a i) (bit b i)
 bit-xor a b i =
     let digits : bitXor a b / 2 ^ i % 2 ≡ bitXor (a / 2 ^ i % 2) (b / 2 ^ i % 2) = ap (λ x. x % 2) (xor-shr a b i) ∙ xor-mod (a / 2 ^ i) (b / 2 ^ i) 1 in
-    ap (λ x. eqb x 1) digits ∙ by-digits bitXor unlike refl refl refl refl refl refl _ _ (mod-lt _ (omega arith)) (mod-lt _ (omega arith))
+    ap (λ x. eqb x 1) digits ∙ by-digits bitXor unlike refl refl refl refl _ _ (mod-lt _ (omega arith)) (mod-lt _ (omega arith))

@@ -1,5 +1,5 @@
 -- How many members a mask has, and its least. Assumes nothing.
-use mathlib.Core.Path.{_≡_, refl, sym, ap, _∙_}
+use mathlib.Core.Path.{_≡_, refl, sym, ap, ap₂, _∙_}
 use mathlib.Core.Logic.{_⊎_, inl, inr, ⊎-elim}
 use mathlib.Core.Bool.{Bool, true, false, cond}
 use Prim.Native.Nat.{ℕ, zero, suc, _+_, _*_, _/_, _%_, _^_, _<_, _≤_}
@@ -37,15 +37,6 @@ module _ (f : ℕ → Bool) where
         | false ↦ omega (arith, how-many-le n)
       ]
 
-  pub how-many-none : (n : ℕ) → how-many-below f n ≡ 0 → (i : ℕ) → i < n → f i ≡ false
-  unfolding how-many-below
-  how-many-none zero e i h = absurd (omega arith)
-  how-many-none (suc n) e i h =
-      ⊎-elim
-      (λ on. absurd (omega (arith, ap (λ b. how-many-below f n + cond b 1 0) on)))
-      (λ off. ⊎-elim (λ same. ap f same ∙ off) (λ other. how-many-none n (omega arith) i (omega arith)) (cases-eq i n))
-      (cases-bool (f n))
-
   least-more : (n : ℕ) (o : Option ℕ) → Least f n o → Least f (suc n) (or-else o (cond (f n) (Some n) None))
   least-more n None none =
       elim (cases-bool (f n)) [
@@ -72,6 +63,17 @@ module _ (f : ℕ → Bool) where
   least-unique n None (Some j) a b = absurd (apart j (b .1) (a j (b .0)))
   least-unique n (Some i) None a b = absurd (apart i (a .1) (b i (a .0)))
   least-unique n (Some i) (Some j) a b = ap Some (omega (arith, not-below i j (a .1) (b .2), not-below j i (b .1) (a .2)))
+
+-- tests that agree below n have as many, and the same least
+pub how-many-same : (f g : ℕ → Bool) (n : ℕ) → ((i : ℕ) → i < n → f i ≡ g i) → how-many-below f n ≡ how-many-below g n
+unfolding how-many-below
+how-many-same f g zero h = refl
+how-many-same f g (suc n) h = ap₂ (λ x b. x + cond b 1 0) (how-many-same f g n (λ i l. h i (omega arith))) (h n (omega arith))
+
+pub least-same : (f g : ℕ → Bool) (n : ℕ) → ((i : ℕ) → i < n → f i ≡ g i) → least-below f n ≡ least-below g n
+unfolding least-below
+least-same f g zero h = refl
+least-same f g (suc n) h = ap₂ (λ o b. or-else o (cond b (Some n) None)) (least-same f g n (λ i l. h i (omega arith))) (h n (omega arith))
 
 bit-half : (m j : ℕ) → bit m (suc j) ≡ bit (m / 2) j
 bit-half m j = ap (λ x. eqb (m / 2 ^ x % 2) 1) (sym (one-add j)) ∙ ap (λ x. eqb (x % 2) 1) (sym (shr-shr m 1 j))

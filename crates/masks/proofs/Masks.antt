@@ -4,23 +4,15 @@ use mathlib.Core.Logic.{⊎-elim}
 use mathlib.Core.Bool.{Bool, true, false, cond, _&&_}
 use Prim.Native.Nat.{ℕ, zero, suc, _+_, _-_, _*_, _/_, _%_, _^_, _<_, _≤_}
 use native.Mathlib.Nat.{pow-suc, pow-zero, mod-lt, mod-eq-of-lt, one-mul, zero-mul, add-zero, mod-one}
-use native.Mathlib.Numerals.{add-one}
 use native.Mathlib.Omega.{arith}
 use lib.Dec.{eqb, ltb}
-use lib.Pow.{pow-mono, mod-pow-add}
-use Rattle.std.proofs.shelf.Tests.{cases-lt, lt-ltb, le-ltb, cases-eq}
-use Rattle.masks.specs.Masks.{bit, mask-below, mask}
+use lib.Pow.{pow-pos, pow-mono, mod-pow-add}
+use Rattle.std.proofs.shelf.Tests.{cases-lt, lt-ltb, le-ltb, cases-eq, cases-order, eq-eqb, ne-eqb, eqb-true, cond-true, cond-false}
+use Rattle.std.specs.Orderings.{Decides}
+use Rattle.masks.specs.Masks.{bit, mask-below, mask, none}
 use Rattle.masks.proofs.Bits.{bit-low, bit-under, bit-at}
 
 module _ (f : ℕ → Bool) where
-  pub mask-none : mask-below f 0 ≡ 0
-  unfolding mask-below
-  mask-none = refl
-
-  pub mask-more : (n : ℕ) → mask-below f (n + 1) ≡ mask-below f n + cond (f n) (2 ^ n) 0
-  unfolding mask-below
-  mask-more n = ap (mask-below f) (add-one n)
-
   pub mask-lt : (n : ℕ) → mask-below f n < 2 ^ n
   unfolding mask-below
   mask-lt zero = omega (arith, pow-zero 2)
@@ -94,3 +86,42 @@ bit-ones n i =
     let e : 2 ^ n - 1 ≡ mask-below (λ _. true) n = omega (arith, ones-below n) in
     ap (λ x. bit x i) e
     ∙ ⊎-elim (λ l. bit-mask-below (λ _. true) n i l ∙ sym (lt-ltb i n l)) (λ l. bit-mask-past (λ _. true) n i l ∙ sym (le-ltb i n l)) (cases-lt i n)
+
+pub mask-empty : (f : ℕ → Bool) → Decides (none f) ((i : ℕ) → i < 64 → f i ≡ false)
+mask-empty f = (
+  λ e i h. sym (bit-mask-below f 64 i h) ∙ ap (λ m. bit m i) (eqb-true (mask f) 0 e) ∙ bit-low 0 i (pow-pos i),
+  λ h. eq-eqb (mask f) 0 (sym (mask-is f 0 (pow-pos 64) (λ i l. bit-low 0 i (pow-pos i) ∙ sym (h i l)))),
+)
+
+-- a test that nothing from 64 on passes is the membership of its mask
+pub bit-mask-all : (f : ℕ → Bool) → ((i : ℕ) → 64 ≤ i → f i ≡ false) → (i : ℕ) → bit (mask f) i ≡ f i
+bit-mask-all f past i = ⊎-elim (λ l. bit-mask-below f 64 i l) (λ l. bit-mask-past f 64 i l ∙ sym (past i l)) (cases-lt i 64)
+
+-- a loop that puts in the numbers below n one by one: its start, its step and its end
+pub mask-none : (f : ℕ → Bool) → 0 ≡ mask-below f 0
+unfolding mask-below
+mask-none f = refl
+
+pub mask-more : (f : ℕ → Bool) (n : ℕ) → n < 64 → mask (λ j. cond (eqb j n) (f n) (bit (mask-below f n) j)) ≡ mask-below f (n + 1)
+mask-more f n h =
+    sym (mask-is _ (mask-below f (n + 1)) fits (λ j _. ⊎-elim (here j) (⊎-elim (under j) (over j)) (cases-order j n)))
+  where
+    fits : mask-below f (n + 1) < 2 ^ 64
+    fits = let up : n + 1 ≤ 64 = omega arith in omega (arith, mask-lt f (n + 1), pow-mono up)
+
+    here : (j : ℕ) → j ≡ n → bit (mask-below f (n + 1)) j ≡ cond (eqb j n) (f n) (bit (mask-below f n) j)
+    here j e = bit-mask-below f (n + 1) j (omega arith) ∙ ap f e ∙ sym (cond-true (eqb j n) (f n) (bit (mask-below f n) j) (eq-eqb j n e))
+
+    other : (j : ℕ) → (j ≡ n → ⊥) → bit (mask-below f n) j ≡ cond (eqb j n) (f n) (bit (mask-below f n) j)
+    other j ne = sym (cond-false (eqb j n) (f n) (bit (mask-below f n) j) (ne-eqb j n ne))
+
+    under : (j : ℕ) → j < n → bit (mask-below f (n + 1)) j ≡ cond (eqb j n) (f n) (bit (mask-below f n) j)
+    under j l = bit-mask-below f (n + 1) j (omega arith) ∙ sym (bit-mask-below f n j l) ∙ other j (λ e. omega arith)
+
+    over : (j : ℕ) → n < j → bit (mask-below f (n + 1)) j ≡ cond (eqb j n) (f n) (bit (mask-below f n) j)
+    over j l = bit-mask-past f (n + 1) j (omega arith) ∙ sym (bit-mask-past f n j (omega arith)) ∙ other j (λ e. omega arith)
+
+pub mask-all : (f : ℕ → Bool) (n : ℕ) → n ≤ 64 → ((i : ℕ) → n ≤ i → f i ≡ false) → mask-below f n ≡ mask f
+mask-all f n h past =
+    mask-is f (mask-below f n) (omega (arith, mask-lt f n, pow-mono h))
+    (λ i _. ⊎-elim (λ l. bit-mask-below f n i l) (λ l. bit-mask-past f n i l ∙ sym (past i l)) (cases-lt i n))

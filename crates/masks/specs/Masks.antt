@@ -37,3 +37,7 @@ how-many test = how-many-below test 64
 
 abbrev pub least : (ℕ → Bool) → Option ℕ
 least test = least-below test 64
+
+-- no number passes a test
+abbrev pub none : (ℕ → Bool) → Bool
+none test = eqb (mask test) 0

@@ -40,6 +40,13 @@ pub fn without(bits: u64, others: u64) -> u64
     (bits | others) ^ others
 }
 
+/// The members of both sets.
+pub fn common(bits: u64, others: u64) -> u64
+    ensures { λ r. ⌜ r ≡ mask (λ j. bit bits j && bit others j) ⌝ }
+{
+    bits & others
+}
+
 /// How many members the set has.
 pub fn count(bits: u64) -> u32
     ensures { λ r. ⌜ r ≡ how-many (bit bits) ⌝ }

@@ -1,0 +1,5 @@
+pub mod Refusals
+pub mod Sizes
+pub mod Maps
+pub mod Changes
+pub mod Laws
