@@ -1,0 +1,60 @@
+-- Laws of whole listings. Assumes nothing.
+use mathlib.Core.Path.{_≡_}
+use mathlib.Core.List.{List, [], _∷_, _++_, map}
+use Prim.Native.Nat.{ℕ}
+use Rattle.std.specs.Joined.{joined}
+use Rattle.std.specs.declared.option.Option.{Option}
+use Rattle.std.specs.declared.option.Option.the-variants.{None}
+use Rattle.std.specs.declared.result.Result.the-variants.{Ok, Err}
+use Rattle.host.specs.declared.Host.{Host}
+use Rattle.host.specs.declared.part.Part.{Part}
+use Rattle.host.specs.declared.part.Part.the-variants.{Pe, RowSwitch, ColumnSwitch}
+use Rattle.job.specs.declared.record.Record.{Record}
+use Rattle.job.specs.declared.record.Record.the-variants.{Size, Mark, Choose}
+use Rattle.job.specs.declared.refusal.Refusal.{Refusal}
+use Rattle.job.specs.Records.{Item, items}
+use Rattle.job.specs.Lines.{Line, outcome-of, line, lines, told-from, listing}
+
+-- a record as it is written: its kind and its body
+abbrev pub kind : Record → ℕ
+kind (Size rows columns) = 16
+kind (Mark (Pe i j) s) = 17
+kind (Mark (RowSwitch i j) s) = 18
+kind (Mark (ColumnSwitch i j) s) = 19
+kind (Choose i s) = 20
+
+abbrev pub body : Record → List ℕ
+body (Size rows columns) = rows ∷ columns ∷ []
+body (Mark (Pe i j) s) = i ∷ j ∷ s ∷ []
+body (Mark (RowSwitch i j) s) = i ∷ j ∷ s ∷ []
+body (Mark (ColumnSwitch i j) s) = i ∷ j ∷ s ∷ []
+body (Choose i s) = i ∷ s ∷ []
+
+abbrev pub bytes : List Record → List ℕ
+bytes rs = joined (λ r. kind r ∷ body r) rs
+
+-- a record that is read whole
+abbrev pub whole : Record → Item
+whole r = record { kind = kind r; content = Ok r }
+
+-- the card that items leave
+unfoldable pub card-after : Option Host → List Item → Option Host
+card-after card [] = card
+card-after card (i ∷ is) = card-after (outcome-of card (i .content) .card) is
+
+pub record Laws : Type 0 where
+  -- records written one behind the other are read as those records
+  pub reads : (rs : List Record) (more : List ℕ) → items (bytes rs ++ more) ≡ map whole rs ++ items more
+  -- a job in which nothing is wrong is its records and nothing else
+  pub nothing-lost : (job : List ℕ) (rs : List Record) → items job ≡ map whole rs → job ≡ bytes rs
+  -- what cannot be read ends the reading
+  pub fault-last : (job : List ℕ) (is js : List Item) (i : Item) (x : Refusal) → items job ≡ is ++ i ∷ js → i .content ≡ Err x → js ≡ []
+  -- one line for each item, with its kind
+  pub one-each : (card : Option Host) (is : List Item) → map (λ (l : Line). l .kind) (lines card is) ≡ map (λ (i : Item). i .kind) is
+  -- lines depend only on the items up to them
+  pub in-order : (card : Option Host) (is js : List Item) → lines card (is ++ js) ≡ lines card is ++ lines (card-after card is) js
+  -- a refused item changes no later line
+  pub refused-silent : (card : Option Host) (is js : List Item) (i : Item) (x : Refusal) → outcome-of (card-after card is) (i .content) .reply ≡ Err x →
+      lines card (is ++ i ∷ js) ≡ lines card is ++ line (i .kind) (Err x) ∷ lines (card-after card is) js
+  -- the listing of a longer job begins with the listing of the shorter
+  pub prefix : (rs : List Record) (more : List ℕ) → listing (bytes rs ++ more) ≡ listing (bytes rs) ++ told-from (card-after None (map whole rs)) more

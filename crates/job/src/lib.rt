@@ -1,0 +1,13 @@
+//! Jobs: bytes that ask for calls on a card, and the listing of what came of them.
+ghost use Rattle.job.specs.Laws.{Laws};
+
+pub mod card;
+pub mod listing;
+mod page;
+pub mod record;
+pub mod refusal;
+
+/// What holds of every listing.
+pub fn laws()
+    ensures { λ _. ⌜ Laws ⌝ }
+{}
