@@ -8,6 +8,8 @@ pub mod part;
 pub mod questions;
 pub mod refusal;
 pub mod size;
+#[cfg(test)]
+mod tests;
 
 use size::Size;
 

@@ -6,6 +6,8 @@ pub mod listing;
 mod page;
 pub mod record;
 pub mod refusal;
+#[cfg(test)]
+mod tests;
 
 /// What holds of every listing.
 pub fn laws()

@@ -52,6 +52,7 @@ pub fn list(job: &[u8], out: &mut [u8]) -> Result<usize, ListingRefusal>
 pub fn print(job: &[u8], out: &mut [u8; 65_536]) -> usize
     ensures answer { λ r. ⌜ r ≡ length (printed (now (job .entry))) ⌝ }
     ensures buffer { λ _. ⌜ now (out .exit) ≡ at-front (printed (now (job .entry))) (now (out .entry)) ⌝ }
+    ensures fits { λ r. ⌜ r ≤ 65536 ⌝ }
 {
     match list(job, out) {
         Ok(length) => length,

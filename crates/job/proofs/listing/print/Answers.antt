@@ -21,4 +21,5 @@ returns-in-Err c =
     record {
       answer = laid .behind ∙ zero-add (length (printed job));
       buffer = laid-front laid (omega (arith, laid .behind, c .put-refused .ensures .short, ap length kept)) ∙ ap (at-front (printed job)) kept;
+      fits = omega (arith, c .put-refused .ensures .short);
     }
