@@ -10,7 +10,8 @@ use Rattle.std.specs.declared.option.Option.the-variants.{Some, None}
 use Rattle.std.specs.declared.result.Result.the-variants.{Ok, Err}
 use Rattle.job.specs.declared.record.Kind.{Kind}
 use Rattle.job.specs.declared.refusal.Refusal.the-variants.{UnknownKind, CutShort}
-use Rattle.job.specs.Records.{Reading, kind-of, body-length, record-of, reading}
+use Rattle.job.specs.declared.refusal.Refusal.{Refusal}
+use Rattle.job.specs.Records.{Reading, ReadAt, kind-of, body-length, record-of, reading}
 use Rattle.job.proofs.record.Entry.read.Needs as need
 
 -- what is read at a place of a job
@@ -28,29 +29,28 @@ module _ (job : List ℕ) (i : ℕ) where
       at′ job i ≡ record { content = Ok (record-of k (drop (i + 1) job)); rest = drop (body-length k) (drop (i + 1) job) }
   whole k e long = ap (λ o. reading o (drop (i + 1) job)) (sym e) ∙ cond-false _ _ _ (le-ltb _ (body-length k) long)
 
+  -- a fault is read with nothing behind it
+  faulty : (x : Refusal) → i < length job → at′ job i ≡ record { content = Err x; rest = [] } →
+      ReadAt job i (record { kind = getD job i 0; content = Err x; next = length job })
+  faulty x h r =
+      record {
+        kind = refl;
+        content = sym (ap (λ (r : Reading). r .content) r);
+        rest = drop-all (length job) job (omega arith) ∙ sym (ap (λ (r : Reading). r .rest) r);
+        forward = h;
+        within = omega arith;
+      }
+
 pub returns-in-rest : need.returns-in-rest
 returns-in-rest c =
     let job = c .args .job .now in
-    let r = unknown job (c .args .at) (sym (c .in-rest .is) ∙ c .of .ensures) in
-    record {
-      kind = refl;
-      content = sym (ap (λ (r : Reading). r .content) r);
-      rest = drop-all _ job (omega arith) ∙ sym (ap (λ (r : Reading). r .rest) r);
-      forward = c .pre;
-      within = omega arith;
-    }
+    faulty job (c .args .at) UnknownKind (c .pre) (unknown job (c .args .at) (sym (c .in-rest .is) ∙ c .of .ensures))
 
 pub returns-then-job-start : need.returns-then-job-start
 returns-then-job-start c =
     let job = c .args .job .now in
-    let r = cut job (c .args .at) (c .in-Some .known) (sym (c .in-Some .is) ∙ c .of .ensures) (omega (arith, length-drop (c .args .at + 1) job, c .if-job-start .taken, c .body-length .ensures)) in
-    record {
-      kind = refl;
-      content = sym (ap (λ (r : Reading). r .content) r);
-      rest = drop-all _ job (omega arith) ∙ sym (ap (λ (r : Reading). r .rest) r);
-      forward = c .pre;
-      within = omega arith;
-    }
+    let short : length (drop (c .args .at + 1) job) < body-length (c .in-Some .known) = omega (arith, length-drop (c .args .at + 1) job, c .if-job-start .taken, c .body-length .ensures) in
+    faulty job (c .args .at) CutShort (c .pre) (cut job (c .args .at) (c .in-Some .known) (sym (c .in-Some .is) ∙ c .of .ensures) short)
 
 pub returns : need.returns
 returns c =
