@@ -10,15 +10,15 @@ use Rattle.masks.specs.Masks.{mask}
 use Rattle.host.specs.declared.Host.{Host}
 use Rattle.host.specs.declared.part.Part.{Part}
 use Rattle.host.specs.declared.part.Part.the-variants.{Pe, RowSwitch, ColumnSwitch}
-use Rattle.host.specs.Changes.{Change, marking, picturing, choosing, crossed, refusal, set-by, after, with-part}
+use Rattle.host.specs.Changes.{Change, marking, picturing, choosing, crossed, refusal, set-by, after, with-pes, with-across, with-down, with-choice, with-part}
 use Rattle.host.specs.Laws.{Alike}
 use Rattle.host.proofs.Tables.{put-put, put-at-again}
 use Rattle.host.proofs.Places.{done-by, kept-by, way}
 
 part-again : (h : Host) (p : Part) (a b : Bool) → with-part (with-part h p a) p b ≡ with-part h p b
-part-again h (Pe i j) a b = λ t. record { size = h .size; pes = put-at-again (h .pes) i j a b t; across = h .across; down = h .down; choice = h .choice }
-part-again h (RowSwitch i j) a b = λ t. record { size = h .size; pes = h .pes; across = put-at-again (h .across) i j a b t; down = h .down; choice = h .choice }
-part-again h (ColumnSwitch i j) a b = λ t. record { size = h .size; pes = h .pes; across = h .across; down = put-at-again (h .down) i j a b t; choice = h .choice }
+part-again h (Pe i j) a b = ap (with-pes h) (put-at-again (h .pes) i j a b)
+part-again h (RowSwitch i j) a b = ap (with-across h) (put-at-again (h .across) i j a b)
+part-again h (ColumnSwitch i j) a b = ap (with-down h) (put-at-again (h .down) i j a b)
 
 set-later : (h : Host) (c d : Change) → Alike c d → set-by (set-by h c) d ≡ set-by h d
 set-later h (marking p s) (marking q t) e = ap (λ r. with-part (with-part h r (eqb s 1)) q (eqb t 1)) e ∙ part-again h q (eqb s 1) (eqb t 1)
@@ -27,13 +27,13 @@ set-later h (marking p s) (choosing k t) e = absurd e
 set-later h (picturing i u) (marking q t) e = absurd e
 set-later h (picturing i u) (picturing k v) e =
     ap (λ n. set-by (set-by h (picturing n u)) (picturing k v)) e
-    ∙ (λ t. record { size = h .size; pes = set-set (h .pes) k (mask (crossed u)) (mask (crossed v)) t; across = h .across; down = h .down; choice = h .choice })
+    ∙ ap (with-pes h) (set-set (h .pes) k (mask (crossed u)) (mask (crossed v)))
 set-later h (picturing i u) (choosing k t) e = absurd e
 set-later h (choosing i s) (marking q t) e = absurd e
 set-later h (choosing i s) (picturing k u) e = absurd e
 set-later h (choosing i s) (choosing k t) e =
     ap (λ n. set-by (set-by h (choosing n s)) (choosing k t)) e
-    ∙ (λ x. record { size = h .size; pes = h .pes; across = h .across; down = h .down; choice = put-put (h .choice) k (eqb s 1) (eqb t 1) x })
+    ∙ ap (with-choice h) (put-put (h .choice) k (eqb s 1) (eqb t 1))
 
 -- no call changes the size of the card
 set-size : (h : Host) (c : Change) → set-by h c .size ≡ h .size

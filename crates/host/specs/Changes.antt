@@ -55,16 +55,29 @@ put m j b = mask (λ k. cond (eqb k j) b (bit m k))
 abbrev pub put-at : List ℕ → ℕ → ℕ → Bool → List ℕ
 put-at table i j b = set table i (put (getD table i 0) j b)
 
+-- a map with another table of PEs or switches, or another choice of rows
+abbrev pub with-pes : Host → List ℕ → Host
+with-pes h table = record { size = h .size; pes = table; across = h .across; down = h .down; choice = h .choice }
+
+abbrev pub with-across : Host → List ℕ → Host
+with-across h table = record { size = h .size; pes = h .pes; across = table; down = h .down; choice = h .choice }
+
+abbrev pub with-down : Host → List ℕ → Host
+with-down h table = record { size = h .size; pes = h .pes; across = h .across; down = table; choice = h .choice }
+
+abbrev pub with-choice : Host → ℕ → Host
+with-choice h rows = record { size = h .size; pes = h .pes; across = h .across; down = h .down; choice = rows }
+
 abbrev pub with-part : Host → Part → Bool → Host
-with-part h (Pe i j) b = record { size = h .size; pes = put-at (h .pes) i j b; across = h .across; down = h .down; choice = h .choice }
-with-part h (RowSwitch i j) b = record { size = h .size; pes = h .pes; across = put-at (h .across) i j b; down = h .down; choice = h .choice }
-with-part h (ColumnSwitch i j) b = record { size = h .size; pes = h .pes; across = h .across; down = put-at (h .down) i j b; choice = h .choice }
+with-part h (Pe i j) b = with-pes h (put-at (h .pes) i j b)
+with-part h (RowSwitch i j) b = with-across h (put-at (h .across) i j b)
+with-part h (ColumnSwitch i j) b = with-down h (put-at (h .down) i j b)
 
 -- what a call sets, where it is done
 abbrev pub set-by : Host → Change → Host
 set-by h (marking p s) = with-part h p (eqb s 1)
-set-by h (picturing i text) = record { size = h .size; pes = set (h .pes) i (mask (crossed text)); across = h .across; down = h .down; choice = h .choice }
-set-by h (choosing i s) = record { size = h .size; pes = h .pes; across = h .across; down = h .down; choice = put (h .choice) i (eqb s 1) }
+set-by h (picturing i text) = with-pes h (set (h .pes) i (mask (crossed text)))
+set-by h (choosing i s) = with-choice h (put (h .choice) i (eqb s 1))
 
 abbrev pub unless : Option Refusal → Host → Host → Host
 unless (Some x) h done = h

@@ -6,7 +6,7 @@ ghost use lib.ListN.{length};
 ghost use Rattle.std.specs.declared.result.Result.the-variants.{Ok, Err};
 ghost use Rattle.masks.specs.Masks.{mask};
 ghost use Rattle.host.specs.Maps.{inside};
-ghost use Rattle.host.specs.Changes.{marking, picturing, choosing, answer, after, with-part, crossed, drawn};
+ghost use Rattle.host.specs.Changes.{marking, picturing, choosing, answer, after, with-part, with-choice, crossed, drawn};
 use crate::Host;
 use crate::part::Part;
 use crate::refusal::Refusal;
@@ -76,6 +76,13 @@ impl Host {
         }
         self.choice = masks::with(self.choice, row, state == 1);
         Ok(())
+    }
+
+    /// Sets the choice of all rows at once, for a caller that puts back what `chosen` told it.
+    pub fn set_chosen(&mut self, rows: u64)
+        ensures { λ _. ⌜ now (self .exit) ≡ with-choice (now (self .entry)) rows ⌝ }
+    {
+        self.choice = rows;
     }
 }
 

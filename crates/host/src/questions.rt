@@ -14,6 +14,13 @@ impl Host {
         self.size
     }
 
+    /// The chosen rows: bit i is row i.
+    pub fn chosen(&self) -> u64
+        ensures { λ r. ⌜ r ≡ now (self .entry) .choice ⌝ }
+    {
+        self.choice
+    }
+
     /// The usable PEs of a row: bit j is PE (row, j).
     pub fn usable_in(&self, row: u8) -> u64
         ensures { λ r. ⌜ r ≡ mask (usable (now (self .entry)) row) ⌝ }

@@ -1,0 +1,11 @@
+pub mod Sums
+pub mod ByRows
+pub mod Places
+pub mod Passing
+pub mod Duality
+pub mod Crossings
+pub mod Leasts
+pub mod Chains
+pub mod Flows
+pub mod Cards
+pub mod Examples

@@ -1,0 +1,3 @@
+pub mod Heats
+pub mod KindLaws
+pub mod Charges

@@ -1,0 +1,5 @@
+pub mod Meaning
+pub mod Charges
+pub mod Kinds
+pub mod Heats
+pub mod Refusals
