@@ -81,7 +81,7 @@ marked h w (ColumnSwitch i j) (ColumnSwitch k l) b named here =
     let next = row-of (h .size) (i + 1) (and-parts _ _ named .0) in
     settled-at (h .down) i j b k l _ (w .down) (omega arith) (low (h .size) _ l here) here
 
-passed : (test : Bool) (x : Refusal) (later : Option Refusal) → refuse test x later ≡ None → (test ≡ false) × (later ≡ None)
+pub passed : (test : Bool) (x : Refusal) (later : Option Refusal) → refuse test x later ≡ None → (test ≡ false) × (later ≡ None)
 passed true x later e = absurd (let z : _≡_ {A = ℕ} 0 1 = cc in omega arith)
 passed false x later e = (refl, e)
 

@@ -1,0 +1,5 @@
+mod Gathers
+mod Totals
+mod Shapes
+mod Finds
+mod Trials

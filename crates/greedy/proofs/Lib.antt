@@ -1,0 +1,3 @@
+mod Near
+mod Steps
+pub mod Going
