@@ -13,6 +13,8 @@ mod charges;
 mod greedily;
 pub mod refusal;
 mod rows;
+#[cfg(test)]
+mod tests;
 mod trial;
 
 /// A card's map, and the tariff that its columns are charged by. No call changes the tariff.

@@ -1,3 +1,4 @@
 mod Overlays
+mod Lengths
 mod Readings
 mod Listings

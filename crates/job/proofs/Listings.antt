@@ -15,17 +15,20 @@ use Rattle.host.specs.declared.Host.{Host}
 use Rattle.host.specs.declared.refusal.Refusal.{Refusal as CardRefusal}
 use Rattle.host.specs.declared.size.Size.{Size as CardSize}
 use Rattle.host.specs.Sizes.{tested}
-use Rattle.host.specs.Changes.{Change, marking, choosing, refusal, set-by, unless, told}
+use Rattle.host.specs.Changes.{marking, choosing, refusal, set-by, unless, told}
 use Rattle.host.specs.declared.part.Part.the-variants.{Pe, RowSwitch, ColumnSwitch}
 use Rattle.job.specs.declared.record.Kind.{Kind}
-use Rattle.job.specs.declared.record.Kind.the-variants.{Size as SizeKind, MarkPe, MarkRowSwitch, MarkColumnSwitch, Choose as ChooseKind}
+use Rattle.job.specs.declared.record.Kind.the-variants.{Size as SizeKind, MarkPe, MarkRowSwitch, MarkColumnSwitch, Choose as ChooseKind, Greedy as GreedyKind}
+use Rattle.job.specs.declared.record.Call.{Call}
+use Rattle.job.specs.declared.record.Call.the-variants.{Mark, Choose, Greedy}
 use Rattle.job.specs.declared.record.Record.{Record}
-use Rattle.job.specs.declared.record.Record.the-variants.{Size, Mark, Choose}
+use Rattle.job.specs.declared.record.Record.the-variants.{Size, Call as Asks}
 use Rattle.job.specs.declared.refusal.Refusal.{Refusal}
 use Rattle.job.specs.declared.refusal.Refusal.the-variants.{UnknownKind, CutShort}
 use Rattle.job.specs.Records.{Item, Reading, kind-of, body-length, record-of, reading, items}
-use Rattle.job.specs.Lines.{Line, by-card, sized, changed, outcome-of, line, lines, text, told-from, listing}
-use Rattle.job.specs.Laws.{kind, body, bytes, whole, card-after}
+use Rattle.book.specs.Calls.{by-card}
+use Rattle.job.specs.Lines.{Line, sized, done, answered-by, map-after, outcome-of, line, lines, text, told-from, listing}
+use Rattle.job.specs.Laws.{kind, body, bytes, whole, map-left}
 use Rattle.job.proofs.Readings.{items-none, items-more, lines-more}
 
 -- a body that is long enough makes a record
@@ -34,10 +37,11 @@ complete k bs h = cond-false _ _ _ (le-ltb (length bs) (body-length k) h)
 
 read-back : (r : Record) (more : List ℕ) → reading (kind-of (kind r)) (body r ++ more) ≡ record { content = Ok r; rest = more }
 read-back (Size rows columns) more = complete SizeKind (rows ∷ columns ∷ more) (omega arith)
-read-back (Mark (Pe i j) s) more = complete MarkPe (i ∷ j ∷ s ∷ more) (omega arith)
-read-back (Mark (RowSwitch i j) s) more = complete MarkRowSwitch (i ∷ j ∷ s ∷ more) (omega arith)
-read-back (Mark (ColumnSwitch i j) s) more = complete MarkColumnSwitch (i ∷ j ∷ s ∷ more) (omega arith)
-read-back (Choose i s) more = complete ChooseKind (i ∷ s ∷ more) (omega arith)
+read-back (Asks (Mark (Pe i j) s)) more = complete MarkPe (i ∷ j ∷ s ∷ more) (omega arith)
+read-back (Asks (Mark (RowSwitch i j) s)) more = complete MarkRowSwitch (i ∷ j ∷ s ∷ more) (omega arith)
+read-back (Asks (Mark (ColumnSwitch i j) s)) more = complete MarkColumnSwitch (i ∷ j ∷ s ∷ more) (omega arith)
+read-back (Asks (Choose i s)) more = complete ChooseKind (i ∷ s ∷ more) (omega arith)
+read-back (Asks Greedy) more = complete GreedyKind more (omega arith)
 
 two : (bs : List ℕ) → 2 ≤ length bs → bs ≡ getD bs 0 0 ∷ getD bs 1 0 ∷ drop 2 bs
 two [] h = absurd (omega arith)
@@ -57,6 +61,7 @@ body-first MarkPe bs h = three bs h
 body-first MarkRowSwitch bs h = three bs h
 body-first MarkColumnSwitch bs h = three bs h
 body-first ChooseKind bs h = two bs h
+body-first GreedyKind bs h = refl
 
 -- what a reading of bytes may be
 abbrev Reads : List ℕ → Reading → Type 0
@@ -89,54 +94,55 @@ reads (r ∷ rs) more =
     ∙ ap (λ (x : Reading). record { kind = kind r; content = x .content } ∷ items (x .rest)) (read-back r rest)
     ∙ ap (λ is. whole r ∷ is) (reads rs more)
 
-pub one-each : (card : Option Host) (is : List Item) → map (λ (l : Line). l .kind) (lines card is) ≡ map (λ (i : Item). i .kind) is
+pub one-each : (before : Option Host) (is : List Item) → map (λ (l : Line). l .kind) (lines before is) ≡ map (λ (i : Item). i .kind) is
 unfolding lines
-one-each card [] = refl
-one-each card (i ∷ is) = ap (λ ks. i .kind ∷ ks) (one-each (outcome-of card (i .content) .card) is)
+one-each before [] = refl
+one-each before (i ∷ is) = ap (λ ks. i .kind ∷ ks) (one-each (outcome-of before (i .content) .map) is)
 
-pub in-order : (card : Option Host) (is js : List Item) → lines card (is ++ js) ≡ lines card is ++ lines (card-after card is) js
-unfolding lines card-after
-in-order card [] js = refl
-in-order card (i ∷ is) js = ap (λ ls. line (i .kind) (outcome-of card (i .content) .reply) ∷ ls) (in-order (outcome-of card (i .content) .card) is js)
+pub in-order : (before : Option Host) (is js : List Item) → lines before (is ++ js) ≡ lines before is ++ lines (map-left before is) js
+unfolding lines map-left
+in-order before [] js = refl
+in-order before (i ∷ is) js = ap (λ ls. line (i .kind) (outcome-of before (i .content) .reply) ∷ ls) (in-order (outcome-of before (i .content) .map) is js)
 
-card-kept : (o : Option CardRefusal) (h d : Host) (x : Refusal) → by-card (told o) ≡ Err x → Some (unless o h d) ≡ Some h
-card-kept None h d x e = absurd (let z : _≡_ {A = ℕ} 0 1 = cc in omega arith)
-card-kept (Some y) h d x e = refl
+size-kept : (before : Option Host) (t : Result CardSize CardRefusal) (x : Refusal) → sized before t .reply ≡ Err x → sized before t .map ≡ before
+size-kept before (Ok z) x e = absurd (let z : _≡_ {A = ℕ} 0 1 = cc in omega arith)
+size-kept before (Err y) x e = refl
 
-size-kept : (card : Option Host) (t : Result CardSize CardRefusal) (x : Refusal) → sized card t .reply ≡ Err x → sized card t .card ≡ card
-size-kept card (Ok z) x e = absurd (let z : _≡_ {A = ℕ} 0 1 = cc in omega arith)
-size-kept card (Err y) x e = refl
+change-kept : (o : Option CardRefusal) (h d : Host) (x : Refusal) → done (by-card (told o)) ≡ Err x → unless o h d ≡ h
+change-kept None h d x e = absurd (let z : _≡_ {A = ℕ} 0 1 = cc in omega arith)
+change-kept (Some y) h d x e = refl
 
-change-kept : (card : Option Host) (c : Change) (x : Refusal) → changed card c .reply ≡ Err x → changed card c .card ≡ card
-change-kept None c x e = refl
-change-kept (Some h) c x e = card-kept (refusal (h .size) c) h (set-by h c) x e
+call-kept : (h : Host) (c : Call) (x : Refusal) → answered-by h c ≡ Err x → map-after h c ≡ h
+call-kept h (Mark p s) x e = change-kept (refusal (h .size) (marking p s)) h (set-by h (marking p s)) x e
+call-kept h (Choose i s) x e = change-kept (refusal (h .size) (choosing i s)) h (set-by h (choosing i s)) x e
+call-kept h Greedy x e = refl
 
--- what is refused keeps the card
-refused-keeps : (card : Option Host) (content : Result Record Refusal) (x : Refusal) → outcome-of card content .reply ≡ Err x → outcome-of card content .card ≡ card
-refused-keeps card (Err y) x e = refl
-refused-keeps card (Ok (Size rows columns)) x e = size-kept card (tested rows columns) x e
-refused-keeps card (Ok (Mark p s)) x e = change-kept card (marking p s) x e
-refused-keeps card (Ok (Choose i s)) x e = change-kept card (choosing i s) x e
+-- what is refused keeps the map
+refused-keeps : (before : Option Host) (content : Result Record Refusal) (x : Refusal) → outcome-of before content .reply ≡ Err x → outcome-of before content .map ≡ before
+refused-keeps before (Err y) x e = refl
+refused-keeps before (Ok (Size rows columns)) x e = size-kept before (tested rows columns) x e
+refused-keeps None (Ok (Asks c)) x e = refl
+refused-keeps (Some h) (Ok (Asks c)) x e = ap Some (call-kept h c x e)
 
-pub refused-silent : (card : Option Host) (is js : List Item) (i : Item) (x : Refusal) → outcome-of (card-after card is) (i .content) .reply ≡ Err x →
-    lines card (is ++ i ∷ js) ≡ lines card is ++ line (i .kind) (Err x) ∷ lines (card-after card is) js
-refused-silent card is js i x e =
-    let now′ = card-after card is in
-    in-order card is (i ∷ js)
-    ∙ ap (λ ls. lines card is ++ ls) (lines-more now′ i js ∙ ap₂ (λ reply c. line (i .kind) reply ∷ lines c js) e (refused-keeps now′ (i .content) x e))
+pub refused-silent : (before : Option Host) (is js : List Item) (i : Item) (x : Refusal) → outcome-of (map-left before is) (i .content) .reply ≡ Err x →
+    lines before (is ++ i ∷ js) ≡ lines before is ++ line (i .kind) (Err x) ∷ lines (map-left before is) js
+refused-silent before is js i x e =
+    let now′ = map-left before is in
+    in-order before is (i ∷ js)
+    ∙ ap (λ ls. lines before is ++ ls) (lines-more now′ i js ∙ ap₂ (λ reply c. line (i .kind) reply ∷ lines c js) e (refused-keeps now′ (i .content) x e))
 
 joined-append : (xs ys : List Line) → joined text (xs ++ ys) ≡ joined text xs ++ joined text ys
 joined-append [] ys = refl
 joined-append (x ∷ xs) ys = ap (λ t. text x ++ t) (joined-append xs ys) ∙ sym (append-assoc (text x) (joined text xs) (joined text ys))
 
-pub prefix : (rs : List Record) (more : List ℕ) → listing (bytes rs ++ more) ≡ listing (bytes rs) ++ told-from (card-after None (map whole rs)) more
+pub prefix : (rs : List Record) (more : List ℕ) → listing (bytes rs ++ more) ≡ listing (bytes rs) ++ told-from (map-left None (map whole rs)) more
 prefix rs more =
     let all = map whole rs in
     let alone : items (bytes rs) ≡ all = ap items (sym (append-nil (bytes rs))) ∙ reads rs [] ∙ ap (λ is. all ++ is) items-none ∙ append-nil all in
     ap (λ is. joined text (lines None is)) (reads rs more)
     ∙ ap (joined text) (in-order None all (items more))
-    ∙ joined-append (lines None all) (lines (card-after None all) (items more))
-    ∙ ap (λ is. joined text (lines None is) ++ told-from (card-after None all) more) (sym alone)
+    ∙ joined-append (lines None all) (lines (map-left None all) (items more))
+    ∙ ap (λ is. joined text (lines None is) ++ told-from (map-left None all) more) (sym alone)
 
 -- the parts of a list that is not empty
 same-head : {A : Type 0} (x y : A) (xs ys : List A) → x ∷ xs ≡ y ∷ ys → x ≡ y

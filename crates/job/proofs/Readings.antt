@@ -12,6 +12,7 @@ use Rattle.std.specs.declared.option.Option.{Option}
 use Rattle.std.specs.declared.option.Option.the-variants.{Some, None}
 use Rattle.std.specs.declared.result.Result.{Result}
 use Rattle.host.specs.declared.Host.{Host}
+use Rattle.job.specs.declared.card.Answer.{Answer}
 use Rattle.job.specs.declared.record.Entry.{Entry}
 use Rattle.job.specs.declared.record.Kind.{Kind}
 use Rattle.job.specs.declared.record.Record.{Record}
@@ -51,33 +52,33 @@ items-more b bs =
     ap (λ is. item b bs ∷ is) (enough (length bs) (length (reading (kind-of b) bs .rest)) (reading (kind-of b) bs .rest) (rest-short (kind-of b) bs) (omega arith))
 
 -- an item at the front of a list, by its outcome
-pub lines-more : (card : Option Host) (i : Item) (is : List Item) → lines card (i ∷ is) ≡ line (i .kind) (outcome-of card (i .content) .reply) ∷ lines (outcome-of card (i .content) .card) is
+pub lines-more : (map : Option Host) (i : Item) (is : List Item) → lines map (i ∷ is) ≡ line (i .kind) (outcome-of map (i .content) .reply) ∷ lines (outcome-of map (i .content) .map) is
 unfolding lines
-lines-more card i is = refl
+lines-more map i is = refl
 
-pub lines-none : (card : Option Host) → lines card [] ≡ []
+pub lines-none : (map : Option Host) → lines map [] ≡ []
 unfolding lines
-lines-none card = refl
+lines-none map = refl
 
-pub told-none : (card : Option Host) → told-from card [] ≡ []
-told-none card = ap (λ is. joined text (lines card is)) items-none ∙ ap (joined text) (lines-none card)
+pub told-none : (map : Option Host) → told-from map [] ≡ []
+told-none map = ap (λ is. joined text (lines map is)) items-none ∙ ap (joined text) (lines-none map)
 
 -- what is told of an item, and then of the bytes behind it
 abbrev told-item : Option Host → ℕ → Result Record Refusal → List ℕ → List ℕ
-told-item card kind content rest = text (line kind (outcome-of card content .reply)) ++ told-from (outcome-of card content .card) rest
+told-item map kind content rest = text (line kind (outcome-of map content .reply)) ++ told-from (outcome-of map content .map) rest
 
-pub told-more : (card : Option Host) (b : ℕ) (bs : List ℕ) →
-    told-from card (b ∷ bs) ≡ told-item card b (reading (kind-of b) bs .content) (reading (kind-of b) bs .rest)
-told-more card b bs = ap (λ is. joined text (lines card is)) (items-more b bs) ∙ ap (joined text) (lines-more card (item b bs) _)
+pub told-more : (map : Option Host) (b : ℕ) (bs : List ℕ) →
+    told-from map (b ∷ bs) ≡ told-item map b (reading (kind-of b) bs .content) (reading (kind-of b) bs .rest)
+told-more map b bs = ap (λ is. joined text (lines map is)) (items-more b bs) ∙ ap (joined text) (lines-more map (item b bs) _)
 
 -- the same at a place of a job, by what the code reads there and what is answered
-pub told-at : (card after : Option Host) (job : List ℕ) (at : ℕ) (e : Entry) (reply : Result (Unit {0}) Refusal) → at < length job → ReadAt job at e →
-    reply ≡ outcome-of card (e .content) .reply → after ≡ outcome-of card (e .content) .card →
-    text (line (e .kind) reply) ++ told-from after (drop (e .next) job) ≡ told-from card (drop at job)
-told-at card after job at e reply h r answered left =
+pub told-at : (map after : Option Host) (job : List ℕ) (at : ℕ) (e : Entry) (reply : Result Answer Refusal) → at < length job → ReadAt job at e →
+    reply ≡ outcome-of map (e .content) .reply → after ≡ outcome-of map (e .content) .map →
+    text (line (e .kind) reply) ++ told-from after (drop (e .next) job) ≡ told-from map (drop at job)
+told-at map after job at e reply h r answered left =
     (λ t. text (line (e .kind) (answered t)) ++ told-from (left t) (drop (e .next) job))
-    ∙ (λ t. told-item card (r .kind t) (r .content t) (r .rest t))
-    ∙ sym (ap (told-from card) (drop-more job at 0 h) ∙ told-more card (getD job at 0) (drop (at + 1) job))
+    ∙ (λ t. told-item map (r .kind t) (r .content t) (r .rest t))
+    ∙ sym (ap (told-from map) (drop-more job at 0 h) ∙ told-more map (getD job at 0) (drop (at + 1) job))
 
-pub told-end : (card : Option Host) (job : List ℕ) (at : ℕ) → length job ≤ at → told-from card (drop at job) ≡ []
-told-end card job at h = ap (told-from card) (drop-all at job h) ∙ told-none card
+pub told-end : (map : Option Host) (job : List ℕ) (at : ℕ) → length job ≤ at → told-from map (drop at job) ≡ []
+told-end map job at h = ap (told-from map) (drop-all at job h) ∙ told-none map

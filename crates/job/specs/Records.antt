@@ -12,20 +12,22 @@ use Rattle.std.specs.declared.result.Result.the-variants.{Ok, Err}
 use Rattle.host.specs.declared.part.Part.the-variants.{Pe, RowSwitch, ColumnSwitch}
 use Rattle.job.specs.declared.record.Entry.{Entry}
 use Rattle.job.specs.declared.record.Kind.{Kind}
-use Rattle.job.specs.declared.record.Kind.the-variants.{Size as SizeKind, MarkPe, MarkRowSwitch, MarkColumnSwitch, Choose as ChooseKind}
+use Rattle.job.specs.declared.record.Kind.the-variants.{Size as SizeKind, MarkPe, MarkRowSwitch, MarkColumnSwitch, Choose as ChooseKind, Greedy as GreedyKind}
+use Rattle.job.specs.declared.record.Call.the-variants.{Mark, Choose, Greedy}
 use Rattle.job.specs.declared.record.Record.{Record}
-use Rattle.job.specs.declared.record.Record.the-variants.{Size, Mark, Choose}
+use Rattle.job.specs.declared.record.Record.the-variants.{Size, Call}
 use Rattle.job.specs.declared.refusal.Refusal.{Refusal}
 use Rattle.job.specs.declared.refusal.Refusal.the-variants.{UnknownKind, CutShort}
 
--- 10 to 14, in hexadecimal digits
+-- 10 to 14 and 16, in hexadecimal digits
 abbrev pub kind-of : ℕ → Option Kind
 kind-of b =
     cond (eqb b 16) (Some SizeKind)
     (cond (eqb b 17) (Some MarkPe)
     (cond (eqb b 18) (Some MarkRowSwitch)
     (cond (eqb b 19) (Some MarkColumnSwitch)
-    (cond (eqb b 20) (Some ChooseKind) None))))
+    (cond (eqb b 20) (Some ChooseKind)
+    (cond (eqb b 22) (Some GreedyKind) None)))))
 
 abbrev pub body-length : Kind → ℕ
 body-length SizeKind = 2
@@ -33,14 +35,16 @@ body-length MarkPe = 3
 body-length MarkRowSwitch = 3
 body-length MarkColumnSwitch = 3
 body-length ChooseKind = 2
+body-length GreedyKind = 0
 
 -- the record of a kind, from the bytes after it
 abbrev pub record-of : Kind → List ℕ → Record
 record-of SizeKind bs = Size (getD bs 0 0) (getD bs 1 0)
-record-of MarkPe bs = Mark (Pe (getD bs 0 0) (getD bs 1 0)) (getD bs 2 0)
-record-of MarkRowSwitch bs = Mark (RowSwitch (getD bs 0 0) (getD bs 1 0)) (getD bs 2 0)
-record-of MarkColumnSwitch bs = Mark (ColumnSwitch (getD bs 0 0) (getD bs 1 0)) (getD bs 2 0)
-record-of ChooseKind bs = Choose (getD bs 0 0) (getD bs 1 0)
+record-of MarkPe bs = Call (Mark (Pe (getD bs 0 0) (getD bs 1 0)) (getD bs 2 0))
+record-of MarkRowSwitch bs = Call (Mark (RowSwitch (getD bs 0 0) (getD bs 1 0)) (getD bs 2 0))
+record-of MarkColumnSwitch bs = Call (Mark (ColumnSwitch (getD bs 0 0) (getD bs 1 0)) (getD bs 2 0))
+record-of ChooseKind bs = Call (Choose (getD bs 0 0) (getD bs 1 0))
+record-of GreedyKind bs = Call Greedy
 
 -- what is read: a record or its fault, and the bytes after it; a fault ends the reading
 pub record Reading : Type 0 where

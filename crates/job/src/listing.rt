@@ -10,7 +10,8 @@ use crate::page::put_line;
 use crate::page::put_refused;
 use crate::record::Entry;
 use crate::refusal::ListingRefusal;
-use host::Host;
+use book::Book;
+use tariff::links::Links;
 
 /// The longest job that is listed.
 const LONGEST: usize = 60_000;
@@ -20,12 +21,12 @@ fn write(job: &[u8], page: &mut [u8]) -> usize
     requires { ⌜ length (now job) ≤ 60000 ⌝ }
     ensures { λ r. ⌜ Laid (now (page .entry)) 0 (listing (now (job .entry))) (now (page .exit)) r ⌝ }
 {
-    let mut card: Option<Host> = None;
+    let mut book: Option<Book<Links>> = None;
     let mut at = 0;
     let mut used = 0;
     while at < job.len() {
         let entry = Entry::read(job, at);
-        let reply = apply(&mut card, entry.content);
+        let reply = apply(&mut book, entry.content);
         used = put_line(page, used, entry.kind, reply);
         at = entry.next;
     }

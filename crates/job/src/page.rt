@@ -5,8 +5,9 @@ ghost use mathlib.Core.List.{[], _∷_};
 ghost use Prim.Native.Nat.{_+_, _^_, _<_, _≤_};
 ghost use lib.ListN.{length};
 ghost use Rattle.std.specs.Written.{decimal, glyph};
-ghost use Rattle.job.specs.Lines.{line, refused, text};
+ghost use Rattle.job.specs.Lines.{line, counts, told, refused, text};
 ghost use Rattle.job.specs.Pages.{Laid};
+use crate::card::Answer;
 use crate::refusal::Refusal;
 
 /// Puts one byte. Like each function below, it answers the place behind what it put.
@@ -66,15 +67,38 @@ pub fn put_refused(page: &mut [u8], at: usize, number: u8) -> usize
     put(page, next, b'\n')
 }
 
+/// Puts two numbers with a space between them, and the end of the line.
+fn put_counts(page: &mut [u8], at: usize, columns: u32, total: u32) -> usize
+    requires { ⌜ at + 22 < 2 ^ 64 ⌝ }
+    ensures laid { λ r. ⌜ Laid (now (page .entry)) at (counts columns total) (now (page .exit)) r ⌝ }
+    ensures short { λ r. ⌜ r ≤ at + 22 ⌝ }
+{
+    let next = put_decimal(page, at, columns);
+    let next = put(page, next, b' ');
+    let next = put_decimal(page, next, total);
+    put(page, next, b'\n')
+}
+
+fn put_answer(page: &mut [u8], at: usize, answer: Answer) -> usize
+    requires { ⌜ at + 22 < 2 ^ 64 ⌝ }
+    ensures laid { λ r. ⌜ Laid (now (page .entry)) at (told answer) (now (page .exit)) r ⌝ }
+    ensures short { λ r. ⌜ r ≤ at + 22 ⌝ }
+{
+    match answer {
+        Answer::Done => put_all(page, at, b"ok\n"),
+        Answer::Counts(columns, total) => put_counts(page, at, columns, total),
+    }
+}
+
 /// Puts the line of a record.
-pub fn put_line(page: &mut [u8], at: usize, kind: u8, reply: Result<(), Refusal>) -> usize
-    requires { ⌜ at + 10 < 2 ^ 64 ⌝ }
+pub fn put_line(page: &mut [u8], at: usize, kind: u8, reply: Result<Answer, Refusal>) -> usize
+    requires { ⌜ at + 25 < 2 ^ 64 ⌝ }
     ensures laid { λ r. ⌜ Laid (now (page .entry)) at (text (line kind reply)) (now (page .exit)) r ⌝ }
-    ensures short { λ r. ⌜ r ≤ at + 10 ⌝ }
+    ensures short { λ r. ⌜ r ≤ at + 25 ⌝ }
 {
     let next = put_all(page, at, &[hex(kind / 16), hex(kind % 16), b' ']);
     match reply {
-        Ok(()) => put_all(page, next, b"ok\n"),
+        Ok(answer) => put_answer(page, next, answer),
         Err(x) => put_refused(page, next, x.number()),
     }
 }

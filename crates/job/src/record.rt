@@ -13,16 +13,24 @@ pub enum Kind {
     MarkRowSwitch,
     MarkColumnSwitch,
     Choose,
+    Greedy,
 }
 
+/// What a job asks of a book.
 #[derive(Clone, Copy)]
-pub enum Record {
-    /// rows and columns
-    Size(u8, u8),
+pub enum Call {
     /// a part and its state
     Mark(Part, u8),
     /// a row and its state
     Choose(u8, u8),
+    Greedy,
+}
+
+#[derive(Clone, Copy)]
+pub enum Record {
+    /// rows and columns of a new card
+    Size(u8, u8),
+    Call(Call),
 }
 
 /// What stands at a place of a job: a byte of kind with its record or what is wrong with it, and where to read on.
@@ -43,6 +51,7 @@ impl Kind {
             0x12 => Some(Kind::MarkRowSwitch),
             0x13 => Some(Kind::MarkColumnSwitch),
             0x14 => Some(Kind::Choose),
+            0x16 => Some(Kind::Greedy),
             _ => None,
         }
     }
@@ -51,6 +60,7 @@ impl Kind {
         ensures { λ r. ⌜ r ≡ body-length self ⌝ }
     {
         match self {
+            Kind::Greedy => 0,
             Kind::Size | Kind::Choose => 2,
             Kind::MarkPe | Kind::MarkRowSwitch | Kind::MarkColumnSwitch => 3,
         }
@@ -63,10 +73,11 @@ impl Kind {
     {
         match self {
             Kind::Size => Record::Size(body[0], body[1]),
-            Kind::MarkPe => Record::Mark(Part::Pe(body[0], body[1]), body[2]),
-            Kind::MarkRowSwitch => Record::Mark(Part::RowSwitch(body[0], body[1]), body[2]),
-            Kind::MarkColumnSwitch => Record::Mark(Part::ColumnSwitch(body[0], body[1]), body[2]),
-            Kind::Choose => Record::Choose(body[0], body[1]),
+            Kind::MarkPe => Record::Call(Call::Mark(Part::Pe(body[0], body[1]), body[2])),
+            Kind::MarkRowSwitch => Record::Call(Call::Mark(Part::RowSwitch(body[0], body[1]), body[2])),
+            Kind::MarkColumnSwitch => Record::Call(Call::Mark(Part::ColumnSwitch(body[0], body[1]), body[2])),
+            Kind::Choose => Record::Call(Call::Choose(body[0], body[1])),
+            Kind::Greedy => Record::Call(Call::Greedy),
         }
     }
 }

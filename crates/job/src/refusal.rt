@@ -1,14 +1,18 @@
 //! Why a record of a job is refused, and why a whole listing is.
 ghost use mathlib.Core.Path.{_≡_};
 ghost use Rattle.job.specs.Refusals.{number, listing-number};
-ghost use Rattle.job.specs.declared.refusal.Refusal.the-variants.{Card};
-use host::refusal::RefusalDebug as _;
-use host::refusal::RefusalPartialEq as _;
+ghost use Rattle.job.specs.declared.refusal.Refusal.the-variants.{Size, Book};
+use book::refusal::RefusalDebug as _;
+use book::refusal::RefusalPartialEq as _;
+use host::refusal::RefusalDebug as CardRefusalDebug;
+use host::refusal::RefusalPartialEq as CardRefusalPartialEq;
 
 #[derive(Clone, Copy, PartialEq, Debug)]
 pub enum Refusal {
-    /// by the card, or by the size test
-    Card(host::refusal::Refusal),
+    /// by the size test
+    Size(host::refusal::Refusal),
+    /// by the book
+    Book(book::refusal::Refusal),
     /// a kind of record that there is not
     UnknownKind,
     /// a body that the job's end cuts short
@@ -22,7 +26,8 @@ impl Refusal {
         ensures { λ r. ⌜ r ≡ number self ⌝ }
     {
         match self {
-            Refusal::Card(x) => x.number(),
+            Refusal::Size(x) => x.number(),
+            Refusal::Book(x) => x.number(),
             Refusal::UnknownKind => 7,
             Refusal::CutShort => 8,
             Refusal::OutOfTurn => 9,
@@ -30,11 +35,19 @@ impl Refusal {
     }
 }
 
-pub impl From<host::refusal::Refusal> for Refusal as RefusalFromCard {
-    ghost converts = { λ x r. r ≡ Card x };
+pub impl From<host::refusal::Refusal> for Refusal as RefusalFromSize {
+    ghost converts = { λ x r. r ≡ Size x };
 
     fn from(x: host::refusal::Refusal) -> Refusal {
-        Refusal::Card(x)
+        Refusal::Size(x)
+    }
+}
+
+pub impl From<book::refusal::Refusal> for Refusal as RefusalFromBook {
+    ghost converts = { λ x r. r ≡ Book x };
+
+    fn from(x: book::refusal::Refusal) -> Refusal {
+        Refusal::Book(x)
     }
 }
 

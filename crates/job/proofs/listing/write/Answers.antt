@@ -3,7 +3,8 @@ use mathlib.Core.List.{List, [], _∷_, _++_, append-nil, append-assoc}
 use Prim.Native.Nat.{ℕ}
 use native.Mathlib.Omega.{arith}
 use lib.ListN.{drop}
-use Rattle.job.specs.Lines.{line, text, told-from}
+use Rattle.std.specs.Options.{mapped}
+use Rattle.job.specs.Lines.{map-of, line, text, told-from}
 use Rattle.job.proofs.Overlays.{laid-none, laid-then, laid-as}
 use Rattle.job.proofs.Readings.{told-at, told-end}
 use Rattle.job.proofs.listing.write.Needs as need
@@ -26,9 +27,9 @@ loop-at-again c =
       (
         so-far .0 ++ new,
         laid-then (so-far .0) new (so-far .1) (c .put-line-used .ensures .laid),
-        append-assoc (so-far .0) new (told-from (c .apply-reply .last .card) rest)
+        append-assoc (so-far .0) new (told-from (mapped map-of (c .apply-reply .last .book)) rest)
             ∙ ap (λ more. so-far .0 ++ more)
-            (told-at (c .loop-at .card) (c .apply-reply .last .card) job (c .loop-at .at) entry (c .apply-reply .result) (c .loop-at-test .taken) (c .read-entry .ensures) (c .apply-reply .ensures .answer) (c .apply-reply .ensures .card))
+            (told-at (mapped map-of (c .loop-at .book)) (mapped map-of (c .apply-reply .last .book)) job (c .loop-at .at) entry (c .apply-reply .result) (c .loop-at-test .taken) (c .read-entry .ensures) (c .apply-reply .ensures .answer) (c .apply-reply .ensures .map))
             ∙ so-far .2,
       ),
     )
@@ -36,4 +37,4 @@ loop-at-again c =
 pub returns : need.returns
 returns c =
     let so-far = c .loop-at .inv .2 in
-    laid-as _ _ (sym (append-nil (so-far .0)) ∙ ap (λ more. so-far .0 ++ more) (sym (told-end (c .loop-at .card) (c .args .job .now) (c .loop-at .at) (c .loop-at-test .left))) ∙ so-far .2) (so-far .1)
+    laid-as _ _ (sym (append-nil (so-far .0)) ∙ ap (λ more. so-far .0 ++ more) (sym (told-end (mapped map-of (c .loop-at .book)) (c .args .job .now) (c .loop-at .at) (c .loop-at-test .left))) ∙ so-far .2) (so-far .1)

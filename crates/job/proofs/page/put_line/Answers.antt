@@ -14,8 +14,8 @@ head high low = high ∷ low ∷ 32 ∷ []
 pub returns-in-Ok : need.returns-in-Ok
 returns-in-Ok c =
     record {
-      laid = laid-as _ _ (λ t. head (c .hex .ensures t) (c .hex-2 .ensures t) ++ said (sym (c .in-Ok .is) t)) (laid-then _ _ (c .put-all-next .ensures) (c .put-all .ensures));
-      short = omega (arith, c .put-all-next .ensures .behind, c .put-all .ensures .behind);
+      laid = laid-as _ _ (λ t. head (c .hex .ensures t) (c .hex-2 .ensures t) ++ said (sym (c .in-Ok .is) t)) (laid-then _ _ (c .put-all-next .ensures) (c .put-answer .ensures .laid));
+      short = omega (arith, c .put-all-next .ensures .behind, c .put-answer .ensures .short);
     }
 
 pub returns-in-Err : need.returns-in-Err
