@@ -29,15 +29,16 @@ module _ (m : Meaning) (rows bytes : List ℕ) (size : ℕ) where
   unfolding charges
   charges-none = refl
 
-  pub charges-more : (n : ℕ) → charges m rows bytes size (n + 1) ≡ charges m rows bytes size n + charge m rows (column-at bytes size n)
+  charges-more : (n : ℕ) → charges m rows bytes size (n + 1) ≡ charges m rows bytes size n + charge m rows (column-at bytes size n)
   unfolding charges
   charges-more n = ap (charges m rows bytes size) (add-one n)
 
--- the part of the bytes that the code takes is the column
-pub part-is-column : (m : Meaning) (rows bytes : List ℕ) (size n : ℕ) → charge m rows (take (n * size + size - n * size) (drop (n * size) bytes)) ≡ charge m rows (column-at bytes size n)
-part-is-column m rows bytes size n =
+-- one column more, as the code takes it from the bytes
+pub one-more : (m : Meaning) (rows bytes : List ℕ) (size n sum more : ℕ) → sum ≡ charges m rows bytes size n →
+    more ≡ charge m rows (take (n * size + size - n * size) (drop (n * size) bytes)) → sum + more ≡ charges m rows bytes size (n + 1)
+one-more m rows bytes size n sum more so part =
     let e : n * size + size - n * size ≡ size = omega arith in
-    ap (λ k. charge m rows (take k (drop (n * size) bytes))) e
+    ap₂ _+_ so (part ∙ ap (λ k. charge m rows (take k (drop (n * size) bytes))) e) ∙ sym (charges-more m rows bytes size n)
 
 -- no more than 1,000 for each row of each column
 pub charges-limit : (m : Meaning) → Lawful m → (test : ℕ → Bool) (bytes : List ℕ) (size n : ℕ) → charges m (members test) bytes size n ≤ 64000 * n

@@ -1,12 +1,12 @@
-use mathlib.Core.Path.{_≡_, sym, ap, ap₂, _∙_}
-use Prim.Native.Nat.{_+_, _*_, _≤_}
+use mathlib.Core.Path.{_≡_, ap, _∙_}
+use Prim.Native.Nat.{_+_}
 use native.Mathlib.Omega.{arith}
 use borrow.Author.Needs.{needs}
 use lib.ListN.{length}
 use Rattle.masks.specs.Masks.{bit}
 use Rattle.masks.specs.Members.{members}
 use Rattle.book.specs.Charges.{charges}
-use Rattle.book.proofs.Totals.{column-fits, charges-none, charges-more, part-is-column, charges-limit}
+use Rattle.book.proofs.Totals.{column-fits, charges-none, one-more, charges-limit}
 use Rattle.book.proofs.charges.total_charge.Needs as need
 
 pub part-column-charge-end : need.part-column-charge-end
@@ -20,17 +20,15 @@ loop-n-holds g c = charges-none (g .T·Tariff .meaning (c .args .tariff .now)) (
 pub add-total : need.add-total
 add-total g c =
     let m = g .T·Tariff .meaning (c .args .tariff .now) in
-    let law = g .T·Tariff·met .lawful (c .args .tariff .now) in
-    let next = charges-more m (members (bit (c .args .standing))) (c .args .bytes .now) (c .args .rows) (c .loop-n .n) in
-    let part = part-is-column m (members (bit (c .args .standing))) (c .args .bytes .now) (c .args .rows) (c .loop-n .n) in
-    omega (arith, c .loop-n .inv, c .column-charge-total .ensures, part, next, charges-limit m law (bit (c .args .standing)) (c .args .bytes .now) (c .args .rows) (c .loop-n .n + 1), c .pre .1)
+    let standing = bit (c .args .standing) in
+    let next = one-more m (members standing) (c .args .bytes .now) (c .args .rows) (c .loop-n .n) (c .loop-n .total) (c .column-charge-total .result) (c .loop-n .inv) (c .column-charge-total .ensures) in
+    let most = charges-limit m (g .T·Tariff·met .lawful (c .args .tariff .now)) standing (c .args .bytes .now) (c .args .rows) (c .loop-n .n + 1) in
+    omega (arith, next, most, c .pre .1)
 
 pub loop-n-again : need.loop-n-again
 loop-n-again g c =
-    let m = g .T·Tariff .meaning (c .args .tariff .now) in
-    let rows = members (bit (c .args .standing)) in
-    ap₂ _+_ (c .loop-n .inv) (c .column-charge-total .ensures ∙ part-is-column m rows (c .args .bytes .now) (c .args .rows) (c .loop-n .n))
-    ∙ sym (charges-more m rows (c .args .bytes .now) (c .args .rows) (c .loop-n .n))
+    one-more (g .T·Tariff .meaning (c .args .tariff .now)) (members (bit (c .args .standing))) (c .args .bytes .now) (c .args .rows) (c .loop-n .n) (c .loop-n .total) (c .column-charge-total .result)
+    (c .loop-n .inv) (c .column-charge-total .ensures)
 
 pub returns : need.returns
 returns g c =
