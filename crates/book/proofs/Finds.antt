@@ -32,8 +32,11 @@ use Rattle.book.proofs.Shapes.{Columns, starts-shape}
 -- a row has no more usable PEs than the card has columns
 row-few : (h : Host) (i : ℕ) → how-many (bit (mask (usable h i))) ≤ h .size .columns
 row-few h i =
-    omega (arith, how-many-same (bit (mask (usable h i))) (usable h i) 64 (bit-mask-below (usable h i) 64),
-        how-many-past (usable h i) (h .size .columns) 64 (no-column h i))
+    omega (
+      arith,
+      how-many-same (bit (mask (usable h i))) (usable h i) 64 (bit-mask-below (usable h i) 64),
+      how-many-past (usable h i) (h .size .columns) 64 (no-column h i),
+    )
 
 starts-of : (h : Host) (rows : List ℕ) → usable-starts (map (λ i. mask (usable h i)) rows) ≤ h .size .columns
 starts-of h [] = omega arith

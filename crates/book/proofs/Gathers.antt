@@ -21,7 +21,6 @@ pub record Sofar (h : Host) (n : ℕ) (rows : List ℕ) (count : ℕ) : Type 0 w
   pub each : take count rows ≡ map (λ i. mask (usable h i)) (passing (stands h) n)
 
 module _ (h : Host) where
-
   pub none-yet : Sofar h 0 (replicate 64 0) 0
   none-yet =
       let none = passing-none (stands h) in
@@ -38,9 +37,9 @@ module _ (h : Host) where
           long = length-set rows count _ ∙ so .long;
           number = omega (arith, so .number, ap length more, length-push (passing (stands h) n) n);
           each =
-            take-more-set rows count (mask (usable h n)) (omega (arith, few, so .long))
-            ∙ ap (λ xs. xs ++ mask (usable h n) ∷ []) (so .each)
-            ∙ sym (ap (map (λ i. mask (usable h i))) more ∙ map-push (λ i. mask (usable h i)) (passing (stands h) n) n);
+              take-more-set rows count (mask (usable h n)) (omega (arith, few, so .long))
+              ∙ ap (λ xs. xs ++ mask (usable h n) ∷ []) (so .each)
+              ∙ sym (ap (map (λ i. mask (usable h i))) more ∙ map-push (λ i. mask (usable h i)) (passing (stands h) n) n);
         }
 
     pub passed-over : stands h n ≡ false → Sofar h (n + 1) rows count

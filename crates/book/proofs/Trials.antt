@@ -12,7 +12,7 @@ use Rattle.masks.proofs.Members.{length-passing}
 use Rattle.host.specs.declared.Host.{Host}
 use Rattle.host.specs.declared.refusal.Refusal.{Refusal as CardRefusal}
 use Rattle.host.specs.declared.refusal.Refusal.the-variants.{Outside}
-use Rattle.host.specs.Changes as changes
+use Rattle.host.specs.Refusals.{refuse, answered, unless}
 use Rattle.host.specs.Changes.{choosing, refusal, after, with-choice, put}
 use Rattle.host.specs.Maps.{stands}
 use Rattle.host.proofs.Places.{passed}
@@ -22,10 +22,10 @@ use Rattle.std.specs.declared.result.Result.{Result}
 use Rattle.book.specs.declared.refusal.Refusal.{Refusal}
 use Rattle.book.specs.declared.refusal.Refusal.the-variants.{Card, NoRow, ShortBuffer}
 use Rattle.book.specs.Rows.{card-of}
-use Rattle.book.specs.Calls.{refuse, answered, counts, rowless, greedy-refusal, greedy-answer, left-out, trial-refusal, trial-answer}
+use Rattle.book.specs.Calls.{counts, rowless, greedy-refusal, greedy-answer, left-out, trial-refusal, trial-answer}
 
 -- with the choice put back the map is as before
-restored : (h : Host) (rows : ℕ) (o : Option CardRefusal) → with-choice (changes.unless o h (with-choice h rows)) (h .choice) ≡ h
+restored : (h : Host) (rows : ℕ) (o : Option CardRefusal) → with-choice (unless o h (with-choice h rows)) (h .choice) ≡ h
 restored h rows None = refl
 restored h rows (Some x) = refl
 

@@ -1,5 +1,5 @@
 -- What the calls on a book answer, and what they write. Assumes nothing.
-use mathlib.Core.Bool.{Bool, cond, not}
+use mathlib.Core.Bool.{Bool, not}
 use mathlib.Core.List.{List}
 use Prim.Native.Nat.{ℕ, _*_}
 use lib.Dec.{eqb, ltb}
@@ -11,6 +11,7 @@ use Rattle.std.specs.declared.result.Result.the-variants.{Ok, Err}
 use Rattle.host.specs.declared.Host.{Host}
 use Rattle.host.specs.declared.refusal.Refusal.{Refusal as CardRefusal}
 use Rattle.host.specs.declared.refusal.Refusal.the-variants.{Outside}
+use Rattle.host.specs.Refusals.{refuse, answered, unless}
 use Rattle.host.specs.Changes.{choosing, after}
 use Rattle.tariff.specs.Meaning.{Meaning}
 use Rattle.plans.specs.Columns.{standing}
@@ -25,14 +26,6 @@ use Rattle.book.specs.Rows.{card-of, usable-rows}
 abbrev pub by-card : Result (Unit {0}) CardRefusal → Result (Unit {0}) Refusal
 by-card (Ok done) = Ok done
 by-card (Err x) = Err (Card x)
-
--- a refusal where a test passes, and else what comes after it
-abbrev pub refuse : Bool → Refusal → Option Refusal → Option Refusal
-refuse test x later = cond test (Some x) later
-
-abbrev pub answered : {A : Type 0} → Option Refusal → A → Result A Refusal
-answered (Some x) a = Err x
-answered None a = Ok a
 
 -- the columns that greedy finds on a map
 abbrev pub found : Host → List (List ℕ)
@@ -53,10 +46,6 @@ abbrev pub greedy-answer : Host → Meaning → ℕ → Result (ℕ × ℕ) Refu
 greedy-answer h m room = answered (greedy-refusal h room) (counts h m)
 
 -- the columns one after another, with what was behind them; refused, all as it was
-abbrev pub unless : Option Refusal → List ℕ → List ℕ → List ℕ
-unless (Some x) buffer done = buffer
-unless None buffer done = done
-
 abbrev pub greedy-buffer : Host → List ℕ → List ℕ
 greedy-buffer h buffer = unless (greedy-refusal h (length buffer)) buffer (at-front (one-after-another (found h)) buffer)
 

@@ -9,7 +9,13 @@ use tariff::Tariff;
 use tariff::column::column_charge;
 
 /// The charges of the first `columns` columns, each of `rows` bytes, added up.
-pub fn total_charge<T: Tariff>(tariff: &T, standing: u64, bytes: &[u8], rows: usize, columns: u32) -> u32
+pub fn total_charge<T: Tariff>(
+    tariff: &T,
+    standing: u64,
+    bytes: &[u8],
+    rows: usize,
+    columns: u32,
+) -> u32
     requires { ⌜ columns * rows ≤ length (now bytes) ⌝ ∗ ⌜ columns ≤ 64 ⌝ ∗ ⌜ rows ≤ 64 ⌝ }
     ensures { λ r. ⌜ r ≡ charges (meaning (now (tariff .entry))) (members (bit standing)) (now (bytes .entry)) rows columns ⌝ }
 {

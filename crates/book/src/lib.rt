@@ -30,7 +30,10 @@ impl<T: Tariff> Book<T> {
         ensures map { λ r. ⌜ r .host ≡ opened size ⌝ }
         ensures tariff { λ r. ⌜ r .tariff ≡ tariff ⌝ }
     {
-        Book { host: Host::open(size), tariff }
+        Book {
+            host: Host::open(size),
+            tariff,
+        }
     }
 
     /// Sets a part of the card to state 0, healthy, or 1, faulty.

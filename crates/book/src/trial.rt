@@ -32,7 +32,10 @@ impl<T: Tariff> Book<T> {
         ensures same { λ _. ⌜ now (self .exit) ≡ now (self .entry) ⌝ }
     {
         let was = self.host.chosen();
-        let guard = ChoiceGuard { host: &mut self.host, was };
+        let guard = ChoiceGuard {
+            host: &mut self.host,
+            was,
+        };
         guard.host.choose(row, 0)?;
         let mut out = [0u8; 4096];
         greedy_on(guard.host, &self.tariff, &mut out)

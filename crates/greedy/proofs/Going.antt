@@ -33,13 +33,29 @@ fewer f j zero on = omega (arith, ap counted (le-ltb j 0 (omega arith)))
 fewer f j (suc n) on =
     let before = fewer f j n on in
     ⊎-elim
-    (λ same. omega (arith, before, ap counted (ap f (sym same) ∙ on), ap counted (cond-true (eqb n j) false (f n) (eq-eqb n j (sym same))),
-        ap counted (le-ltb j n (omega arith)), ap counted (lt-ltb j (suc n) (omega arith))))
+    (λ same. omega (
+      arith,
+      before,
+      ap counted (ap f (sym same) ∙ on),
+      ap counted (cond-true (eqb n j) false (f n) (eq-eqb n j (sym same))),
+      ap counted (le-ltb j n (omega arith)),
+      ap counted (lt-ltb j (suc n) (omega arith)),
+    ))
     (⊎-elim
-    (λ under. omega (arith, before, ap counted (cond-false (eqb n j) false (f n) (ne-eqb n j (λ e. omega arith))),
-        ap counted (lt-ltb j n under), ap counted (lt-ltb j (suc n) (omega arith))))
-    (λ over. omega (arith, before, ap counted (cond-false (eqb n j) false (f n) (ne-eqb n j (λ e. omega arith))),
-        ap counted (le-ltb j n (omega arith)), ap counted (le-ltb j (suc n) (omega arith)))))
+    (λ under. omega (
+      arith,
+      before,
+      ap counted (cond-false (eqb n j) false (f n) (ne-eqb n j (λ e. omega arith))),
+      ap counted (lt-ltb j n under),
+      ap counted (lt-ltb j (suc n) (omega arith)),
+    ))
+    (λ over. omega (
+      arith,
+      before,
+      ap counted (cond-false (eqb n j) false (f n) (ne-eqb n j (λ e. omega arith))),
+      ap counted (le-ltb j n (omega arith)),
+      ap counted (le-ltb j (suc n) (omega arith)),
+    )))
     (cases-order j n)
 
 pub how-many-without : (row j : ℕ) → j < 64 → bit row j ≡ true → how-many (bit row) ≡ suc (how-many (bit (without row j)))
@@ -177,12 +193,12 @@ module _ (R : ℕ) (first buffer : List ℕ) where
     after-found (row ∷ rows) g some start kept e =
         let t = turned-found j row rows p q u′ start e in
         let fits : n * R + R ≤ length out =
-            omega (arith, g .room, ap (λ m. m * R) (t .fewer-are ∙ sym (add-one (usable-starts u′))), more (usable-starts u′)) in
+        omega (arith, g .room, ap (λ m. m * R) (t .fewer-are ∙ sym (add-one (usable-starts u′))), more (usable-starts u′)) in
         let long : length p ≡ R = kept ∙ simp (length-take, length-drop) (omega arith) in
         let front : take ((n + 1) * R) put ≡ take (n * R) out ++ p =
-            take-putMid (n * R) (n * R + R - n * R) out p ((n + 1) * R) (omega (arith, more n)) (omega arith) in
+        take-putMid (n * R) (n * R + R - n * R) out p ((n + 1) * R) (omega (arith, more n)) (omega arith) in
         let back : drop ((n + 1) * R) put ≡ drop ((n + 1) * R) out =
-            drop-putMid (n * R) (n * R + R - n * R) out p ((n + 1) * R) (omega (arith, more n)) (omega arith) (omega arith) in
+        drop-putMid (n * R) (n * R + R - n * R) out p ((n + 1) * R) (omega (arith, more n)) (omega arith) (omega arith) in
         record {
           number = omega (arith, g .number, ap length (t .columns-are));
           rest = sym (t .untried-is) ∙ g .rest;
@@ -235,9 +251,9 @@ module _ (R : ℕ) (first buffer : List ℕ) where
     finished (row ∷ rows) g some none =
         let end = greedy-end row rows none in
         let front : take (n * R) out ≡ one-after-another (greedy first .columns) =
-            sym (append-nil (take (n * R) out)) ∙ ap (λ e. take (n * R) out ++ one-after-another (e .columns)) (sym end) ∙ g .written in
+        sym (append-nil (take (n * R) out)) ∙ ap (λ e. take (n * R) out ++ one-after-another (e .columns)) (sym end) ∙ g .written in
         let long : length (one-after-another (greedy first .columns)) ≡ n * R =
-            ap length (sym front) ∙ length-take-le (n * R) out (omega (arith, g .room)) in (
+        ap length (sym front) ∙ length-take-le (n * R) out (omega (arith, g .room)) in (
           omega (arith, g .number, ap (λ e. length (e .columns)) end),
           sym (take-append-drop (n * R) out) ∙ ap₂ (λ xs ys. xs ++ ys) front (g .behind ∙ ap (λ m. drop m buffer) (sym long)),
           ap (λ e. e .untried) (sym end) ∙ g .rest,

@@ -22,8 +22,9 @@ use Rattle.host.specs.declared.part.Part.{Part}
 use Rattle.host.specs.declared.part.Part.the-variants.{Pe, RowSwitch, ColumnSwitch}
 use Rattle.host.specs.declared.refusal.Refusal.{Refusal}
 use Rattle.host.specs.declared.size.Size.{Size}
+use Rattle.host.specs.Refusals.{refuse, unless}
 use Rattle.host.specs.Maps.{inside, flag, faulty, faulty-above, chosen, usable, stands}
-use Rattle.host.specs.Changes.{Change, marking, picturing, choosing, opened, crossed, refuse, refusal, set-by, unless, after, with-part, put, put-at}
+use Rattle.host.specs.Changes.{Change, marking, picturing, choosing, opened, crossed, refusal, set-by, after, with-part, put, put-at}
 use Rattle.host.specs.Laws.{Healthy, Usable, Stands, Place, part, choice-of, on-card, state, first-state, same, only, names, Whole, Alike}
 use Rattle.host.proofs.Tables.{bit-put, bit-set, bit-put-at}
 

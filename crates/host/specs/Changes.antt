@@ -7,7 +7,6 @@ use lib.ListN.{length, getD, set, replicate}
 use Rattle.std.specs.declared.option.Option.{Option}
 use Rattle.std.specs.declared.option.Option.the-variants.{Some, None}
 use Rattle.std.specs.declared.result.Result.{Result}
-use Rattle.std.specs.declared.result.Result.the-variants.{Ok, Err}
 use Rattle.masks.specs.Masks.{bit, mask}
 use Rattle.host.specs.declared.Host.{Host}
 use Rattle.host.specs.declared.part.Part.{Part}
@@ -15,6 +14,7 @@ use Rattle.host.specs.declared.part.Part.the-variants.{Pe, RowSwitch, ColumnSw
 use Rattle.host.specs.declared.refusal.Refusal.{Refusal}
 use Rattle.host.specs.declared.refusal.Refusal.the-variants.{Outside, BadState, BadLength, BadCharacter}
 use Rattle.host.specs.declared.size.Size.{Size}
+use Rattle.host.specs.Refusals.{refuse, answered, unless}
 use Rattle.host.specs.Maps.{inside}
 
 -- all is healthy, and every row is chosen
@@ -34,10 +34,6 @@ crossed text j = eqb (getD text j 0) 88
 abbrev pub drawn : List ℕ → Bool
 drawn [] = true
 drawn (b ∷ text) = (eqb b 46 || eqb b 88) && drawn text
-
--- a refusal where a test passes, and else what comes after it
-abbrev pub refuse : Bool → Refusal → Option Refusal → Option Refusal
-refuse test x later = cond test (Some x) later
 
 -- the first refusal that a call meets
 abbrev pub refusal : Size → Change → Option Refusal
@@ -79,18 +75,10 @@ set-by h (marking p s) = with-part h p (eqb s 1)
 set-by h (picturing i text) = with-pes h (set (h .pes) i (mask (crossed text)))
 set-by h (choosing i s) = with-choice h (put (h .choice) i (eqb s 1))
 
-abbrev pub unless : Option Refusal → Host → Host → Host
-unless (Some x) h done = h
-unless None h done = done
-
 -- the map after a call: a refused one changes nothing
 abbrev pub after : Host → Change → Host
 after h c = unless (refusal (h .size) c) h (set-by h c)
 
 -- what a call answers
-abbrev pub told : Option Refusal → Result (Unit {0}) Refusal
-told (Some x) = Err x
-told None = Ok tt
-
 abbrev pub answer : Host → Change → Result (Unit {0}) Refusal
-answer h c = told (refusal (h .size) c)
+answer h c = answered (refusal (h .size) c) tt

@@ -15,7 +15,8 @@ use Rattle.host.specs.declared.Host.{Host}
 use Rattle.host.specs.declared.refusal.Refusal.{Refusal as CardRefusal}
 use Rattle.host.specs.declared.size.Size.{Size as CardSize}
 use Rattle.host.specs.Sizes.{tested}
-use Rattle.host.specs.Changes.{marking, choosing, refusal, set-by, unless, told}
+use Rattle.host.specs.Refusals.{answered, unless}
+use Rattle.host.specs.Changes.{marking, choosing, refusal, set-by}
 use Rattle.host.specs.declared.part.Part.the-variants.{Pe, RowSwitch, ColumnSwitch}
 use Rattle.job.specs.declared.record.Kind.{Kind}
 use Rattle.job.specs.declared.record.Kind.the-variants.{Size as SizeKind, MarkPe, MarkRowSwitch, MarkColumnSwitch, Choose as ChooseKind, Greedy as GreedyKind}
@@ -108,7 +109,7 @@ size-kept : (before : Option Host) (t : Result CardSize CardRefusal) (x : Refusa
 size-kept before (Ok z) x e = absurd (let z : _≡_ {A = ℕ} 0 1 = cc in omega arith)
 size-kept before (Err y) x e = refl
 
-change-kept : (o : Option CardRefusal) (h d : Host) (x : Refusal) → done (by-card (told o)) ≡ Err x → unless o h d ≡ h
+change-kept : (o : Option CardRefusal) (h d : Host) (x : Refusal) → done (by-card (answered o tt)) ≡ Err x → unless o h d ≡ h
 change-kept None h d x e = absurd (let z : _≡_ {A = ℕ} 0 1 = cc in omega arith)
 change-kept (Some y) h d x e = refl
 

@@ -1,14 +1,15 @@
 -- What is answered for a whole job, and what is then in the buffer. Assumes nothing.
 use mathlib.Core.Bool.{cond}
-use mathlib.Core.List.{List, _++_}
+use mathlib.Core.List.{List}
 use Prim.Native.Nat.{ℕ}
 use lib.Dec.{ltb}
 use lib.IntN.{ℤ, pos, negℤ}
-use lib.ListN.{length, drop}
+use lib.ListN.{length}
 use Rattle.std.specs.declared.result.Result.{Result}
 use Rattle.std.specs.declared.result.Result.the-variants.{Ok, Err}
 use Rattle.job.specs.declared.refusal.ListingRefusal.{ListingRefusal}
 use Rattle.job.specs.declared.refusal.ListingRefusal.the-variants.{LongJob, ShortBuffer}
+use Rattle.greedy.specs.Answers.{at-front}
 use Rattle.job.specs.Refusals.{listing-number}
 use Rattle.job.specs.Lines.{refused, listing}
 
@@ -17,10 +18,6 @@ abbrev pub listed : List ℕ → ℕ → Result ℕ ListingRefusal
 listed job room =
     cond (ltb 60000 (length job)) (Err LongJob)
     (cond (ltb room (length (listing job))) (Err ShortBuffer) (Ok (length (listing job))))
-
--- text at the front of a buffer; the bytes behind it keep their content
-abbrev pub at-front : List ℕ → List ℕ → List ℕ
-at-front text buffer = text ++ drop (length text) buffer
 
 -- the buffer after a listing, which a refusal leaves as it was
 abbrev pub written : Result ℕ ListingRefusal → List ℕ → List ℕ → List ℕ

@@ -21,7 +21,10 @@ pub enum Answer {
 }
 
 /// Opens a book, or makes a call on the open one.
-pub fn apply(book: &mut Option<Book<Links>>, content: Result<Record, Refusal>) -> Result<Answer, Refusal>
+pub fn apply(
+    book: &mut Option<Book<Links>>,
+    content: Result<Record, Refusal>,
+) -> Result<Answer, Refusal>
     ensures answer { λ r. ⌜ r ≡ outcome-of (mapped map-of (now (book .entry))) content .reply ⌝ }
     ensures map { λ _. ⌜ mapped map-of (now (book .exit)) ≡ outcome-of (mapped map-of (now (book .entry))) content .map ⌝ }
 {

@@ -74,8 +74,14 @@ impl Kind {
         match self {
             Kind::Size => Record::Size(body[0], body[1]),
             Kind::MarkPe => Record::Call(Call::Mark(Part::Pe(body[0], body[1]), body[2])),
-            Kind::MarkRowSwitch => Record::Call(Call::Mark(Part::RowSwitch(body[0], body[1]), body[2])),
-            Kind::MarkColumnSwitch => Record::Call(Call::Mark(Part::ColumnSwitch(body[0], body[1]), body[2])),
+            Kind::MarkRowSwitch => Record::Call(Call::Mark(
+                Part::RowSwitch(body[0], body[1]),
+                body[2],
+            )),
+            Kind::MarkColumnSwitch => Record::Call(Call::Mark(
+                Part::ColumnSwitch(body[0], body[1]),
+                body[2],
+            )),
             Kind::Choose => Record::Call(Call::Choose(body[0], body[1])),
             Kind::Greedy => Record::Call(Call::Greedy),
         }

@@ -52,9 +52,15 @@ fn every_refusal_of_a_record_has_its_number() -> Result<(), Fail> {
 
 #[test]
 fn greedy_has_a_line_with_its_counts() -> Result<(), Fail> {
-    gives(b"\x10\x02\x03\x11\x00\x00\x01\x11\x01\x02\x01\x16", b"10 ok\n11 ok\n11 ok\n16 2 2\n")?;
+    gives(
+        b"\x10\x02\x03\x11\x00\x00\x01\x11\x01\x02\x01\x16",
+        b"10 ok\n11 ok\n11 ok\n16 2 2\n",
+    )?;
     gives(b"\x10\x40\x40\x16", b"10 ok\n16 64 0\n")?;
-    gives(b"\x16\x10\x01\x01\x14\x00\x00\x16", b"16 no 9\n10 ok\n14 ok\n16 no 6\n")
+    gives(
+        b"\x16\x10\x01\x01\x14\x00\x00\x16",
+        b"16 no 9\n10 ok\n14 ok\n16 no 6\n",
+    )
 }
 
 #[test]

@@ -17,7 +17,7 @@ reach-returns t c =
       | reach-else-untried-gt1·by·then-untried-gt1·else-not-try-lower w ↦
           ap₂ (λ p u. seen true (set p 0 (c .args .column)) u) (w .path-is) (w .untried-is)
           ∙ completed (c .args .column) (c .with .result) (c .args .untried .now) (c .args .path .now) (c .with .ensures, c .pre .0, c .pre .1)
-            (w .if-untried-gt1 .taken) (w .try-lower .last .untried) (w .try-lower .last .path) (w .if-not-try-lower .ensures tt)
+          (w .if-untried-gt1 .taken) (w .try-lower .last .untried) (w .try-lower .last .path) (w .if-not-try-lower .ensures tt)
       | reach-else-untried-gt1·by·else-untried-gt1 w ↦
           ap₂ (λ p u. seen true (set p 0 (c .args .column)) u) (w .path-is) (w .untried-is)
           ∙ last (c .args .column) (c .with .result) (c .args .untried .now) (c .args .path .now) (c .with .ensures, c .pre .0, c .pre .1) (w .if-untried-gt1 .left)

@@ -54,5 +54,5 @@ loop-start-again c =
 pub returns : need.returns
 returns c =
     let end = finished (length (c .args .untried .now)) (c .args .untried .now) (c .args .out .now) (c .loop-start .columns) (c .loop-start .out)
-        (c .loop-start .kept .out) (c .loop-start .untried) (c .loop-start .inv) (omega arith) (sym (c .in-rest .ensures tt)) in
+    (c .loop-start .kept .out) (c .loop-start .untried) (c .loop-start .inv) (omega arith) (sym (c .in-rest .ensures tt)) in
     record { number = end .0; bytes = end .1; untried = end .2 }

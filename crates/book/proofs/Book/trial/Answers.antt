@@ -5,12 +5,13 @@ use Rattle.std.specs.declared.option.Option.{Option}
 use Rattle.std.specs.declared.option.Option.the-variants.{Some, None}
 use Rattle.std.specs.declared.result.Result.the-variants.{Ok, Err}
 use Rattle.host.specs.declared.refusal.Refusal.{Refusal}
-use Rattle.host.specs.Changes.{choosing, refusal, told}
+use Rattle.host.specs.Refusals.{answered}
+use Rattle.host.specs.Changes.{choosing, refusal}
 use Rattle.book.proofs.Trials.{put-back, trial-is}
 use Rattle.book.proofs.Book.trial.Needs as need
 
 -- what is answered Ok was not refused
-unrefused : (o : Option Refusal) (done : Unit {0}) → told o ≡ Ok done → o ≡ None
+unrefused : (o : Option Refusal) (done : Unit {0}) → answered o tt ≡ Ok done → o ≡ None
 unrefused None done e = refl
 unrefused (Some x) done e = absurd (let z : _≡_ {A = ℕ} 0 1 = cc in omega arith)
 

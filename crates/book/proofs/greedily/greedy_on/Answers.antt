@@ -5,7 +5,8 @@ use lib.ListN.{length}
 use Rattle.std.specs.declared.result.Result.the-variants.{Ok}
 use Rattle.host.specs.declared.size.Size.{Size}
 use Rattle.greedy.specs.Answers.{one-after-another, at-front}
-use Rattle.book.specs.Calls.{found, counts, answered, unless}
+use Rattle.host.specs.Refusals.{answered, unless}
+use Rattle.book.specs.Calls.{found, counts}
 use Rattle.book.proofs.Finds.{starts-fit, columns-are, columns-fit, bytes-are, total-is, not-refused}
 use Rattle.book.proofs.greedily.greedy_on.Needs as need
 

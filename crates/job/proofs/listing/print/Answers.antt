@@ -5,7 +5,8 @@ use lib.ListN.{length}
 use Rattle.std.specs.declared.result.Result.the-variants.{Err}
 use Rattle.job.specs.Refusals.{listing-number}
 use Rattle.job.specs.Lines.{listing, refused}
-use Rattle.job.specs.Listings.{listed, printed, printed-as, at-front}
+use Rattle.greedy.specs.Answers.{at-front}
+use Rattle.job.specs.Listings.{listed, printed, printed-as}
 use Rattle.job.proofs.Overlays.{laid-front, laid-as}
 use Rattle.job.proofs.listing.print.Needs as need
 
