@@ -1,5 +1,4 @@
 mod Gathers
 mod Totals
-mod Shapes
 mod Finds
 mod Trials

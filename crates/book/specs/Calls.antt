@@ -16,11 +16,11 @@ use Rattle.host.specs.Changes.{choosing, after}
 use Rattle.tariff.specs.Meaning.{Meaning}
 use Rattle.plans.specs.Columns.{standing}
 use Rattle.plans.specs.Families.{total-charge}
-use Rattle.greedy.specs.Search.{greedy}
+use Rattle.greedy.specs.Laws.{greedy-on}
 use Rattle.greedy.specs.Answers.{one-after-another, at-front}
 use Rattle.book.specs.declared.refusal.Refusal.{Refusal}
 use Rattle.book.specs.declared.refusal.Refusal.the-variants.{Card, NoRow, ShortBuffer}
-use Rattle.book.specs.Rows.{card-of, usable-rows}
+use Rattle.book.specs.Rows.{card-of}
 
 -- a mark, picture or choice is answered as the card does
 abbrev pub by-card : Result (Unit {0}) CardRefusal → Result (Unit {0}) Refusal
@@ -29,7 +29,7 @@ by-card (Err x) = Err (Card x)
 
 -- the columns that greedy finds on a map
 abbrev pub found : Host → List (List ℕ)
-found h = greedy (usable-rows h) .columns
+found h = greedy-on (card-of h) .columns
 
 -- their number and total charge
 abbrev pub counts : Host → Meaning → ℕ × ℕ

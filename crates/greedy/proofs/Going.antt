@@ -4,7 +4,7 @@ use mathlib.Core.Bool.{Bool, true, false, cond}
 use mathlib.Core.List.{List, [], _∷_, _++_}
 use mathlib.Core.Logic.{⊎-elim}
 use mathlib.Core.Path.{_≡_, refl, sym, ap, ap₂, _∙_}
-use native.Mathlib.Nat.{add-mul, one-mul, zero-mul, add-zero}
+use native.Mathlib.Nat.{add-mul, one-mul, zero-mul}
 use native.Mathlib.Numerals.{add-one}
 use native.Mathlib.Omega.{arith}
 use borrow.Rule.Slice.PartMut.{putMid}
@@ -19,7 +19,7 @@ use Rattle.masks.specs.Masks.{bit, how-many, how-many-below, least}
 use Rattle.masks.specs.Laws.{Least}
 use Rattle.masks.proofs.Masks.{bit-mask-below}
 use Rattle.masks.proofs.Counts.{how-many-same, how-many-le, least-found}
-use Rattle.greedy.specs.Search.{Outcome, Ended, PE, without, reach, ended, and-then, starts, usable-starts, greedy}
+use Rattle.greedy.specs.Search.{Outcome, PE, without, reach, ended, before, and-then, starts, usable-starts, greedy}
 use Rattle.greedy.specs.Answers.{seen, told, one-after-another, at-front}
 
 -- what a test counts as
@@ -122,11 +122,11 @@ module _ (j row : ℕ) (rows p q u : List ℕ) (start : least (bit row) ≡ Some
     untried-is : greedy (row ∷ rows) .untried ≡ greedy u .untried
     fewer-are : usable-starts (row ∷ rows) ≡ suc (usable-starts u)
 
-  turned : (f : Option (List ℕ)) → outcome-at .found ≡ f → outcome-at .untried ≡ u → Turned (elim f [ Some a ↦ a ∷ greedy u .columns | None ↦ greedy u .columns ])
+  turned : (f : Option (List ℕ)) → outcome-at .found ≡ f → outcome-at .untried ≡ u → Turned (before f (greedy u .columns))
   turned f is left = record {
     columns-are =
         ap (λ e. e .columns) (greedy-start j row rows start)
-        ∙ ap₂ (λ g v. elim g [ Some a ↦ a ∷ greedy v .columns | None ↦ greedy v .columns ]) is left;
+        ∙ ap₂ (λ g v. before g (greedy v .columns)) is left;
     untried-is = ap (λ e. e .untried) (greedy-start j row rows start) ∙ ap (λ v. greedy v .untried) left;
     fewer-are = fewer-starts j row rows start ∙ ap (λ v. suc (usable-starts v)) left;
   }
@@ -163,7 +163,7 @@ pub record Going (R : ℕ) (first buffer : List ℕ) (n : ℕ) (u out : List ℕ
   pub room : n * R + usable-starts u * R ≤ length buffer
   pub few : n + usable-starts u ≤ 64
 
-few-starts : (u : List ℕ) → usable-starts u ≤ 64
+pub few-starts : (u : List ℕ) → usable-starts u ≤ 64
 few-starts [] = omega arith
 few-starts (row ∷ rows) = how-many-le (bit row) 64
 

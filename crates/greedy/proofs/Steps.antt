@@ -1,8 +1,8 @@
 -- The clauses of the definition, as the calls on parts of slices meet them. Assumes nothing.
-use Prim.Native.Nat.{ℕ, zero, suc, _+_, _-_, _<_, _≤_}
-use mathlib.Core.Bool.{Bool, true, false}
+use Prim.Native.Nat.{ℕ, suc, _+_, _-_, _<_, _≤_}
+use mathlib.Core.Bool.{true, false}
 use mathlib.Core.List.{List, [], _∷_, _++_}
-use mathlib.Core.Path.{_≡_, refl, sym, ap, ap₂, _∙_}
+use mathlib.Core.Path.{_≡_, sym, ap, ap₂, _∙_}
 use native.Mathlib.Omega.{arith}
 use borrow.Rule.Slice.PartMut.{putMid}
 use lib.ListN.{length, getD, set, take, drop}
@@ -11,7 +11,7 @@ use Rattle.std.proofs.shelf.Tests.{true≢false, false≢true}
 use Rattle.std.specs.declared.option.Option.{Option}
 use Rattle.std.specs.declared.option.Option.the-variants.{Some, None}
 use Rattle.greedy.specs.Search.{PE, Outcome, without, try-lower, through, reach}
-use Rattle.greedy.specs.Answers.{Seen, seen, told}
+use Rattle.greedy.specs.Answers.{seen, told}
 
 -- `&s[1..]`, and `s` after a write to it
 abbrev rest-of : List ℕ → List ℕ

@@ -1,2 +1,4 @@
 pub mod Search
 pub mod Answers
+pub mod Tries
+pub mod Laws

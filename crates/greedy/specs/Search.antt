@@ -1,6 +1,6 @@
 -- Greedy column rerouting. A list of rows goes down, each row the mask of its PEs that are usable and untried. Assumes nothing.
 use Prim.Native.Nat.{ℕ, zero, suc, _+_}
-use mathlib.Core.Bool.{Bool, true, false, cond, _&&_}
+use mathlib.Core.Bool.{false, cond, _&&_}
 use mathlib.Core.List.{List, [], _∷_, _++_}
 use lib.Dec.{eqb, leb}
 use lib.ListN.{length}
@@ -49,10 +49,15 @@ try-leftmost reach j (row ∷ rows) = elim (neighbour row j) [ Some k ↦ reach 
 abbrev pub try-lower : (ℕ → List ℕ → Outcome) → ℕ → List ℕ → Outcome
 try-lower reach j rows = or-else (or-else (try-leftmost reach j rows) (try-leftmost reach j)) (try-leftmost reach j)
 
--- a PE is tried now; a column found from its lower neighbours goes on from it
+-- a column that was found, with column j above it
+abbrev pub from : ℕ → Option (List ℕ) → Option (List ℕ)
+from j None = None
+from j (Some a) = Some (j ∷ a)
+
+-- a PE is tried now, and a column that was found below goes through it
 abbrev pub through : PE → ℕ → Outcome → Outcome
 through pe row o = record {
-  found = elim (o .found) [ Some a ↦ Some (pe .column ∷ a) | None ↦ None ];
+  found = from (pe .column) (o .found);
   untried = without row (pe .column) ∷ o .untried;
   tried = pe ∷ o .tried;
 }
@@ -72,11 +77,16 @@ pub record Ended : Type 0 where
 abbrev pub ended : List ℕ → Ended
 ended rows = record { columns = []; untried = rows; tried = [] }
 
+-- a column that was found, if any, and then others
+abbrev pub before : Option (List ℕ) → List (List ℕ) → List (List ℕ)
+before None others = others
+before (Some a) others = a ∷ others
+
 -- after a start comes the next
 abbrev pub and-then : Outcome → (List ℕ → Ended) → Ended
 and-then o next =
     let e = next (o .untried) in
-    record { columns = elim (o .found) [ Some a ↦ a ∷ e .columns | None ↦ e .columns ]; untried = e .untried; tried = o .tried ++ e .tried }
+    record { columns = before (o .found) (e .columns); untried = e .untried; tried = o .tried ++ e .tried }
 
 -- n starts, each at the leftmost untried PE of the first row, until none is left
 unfoldable pub starts : ℕ → List ℕ → Ended

@@ -4,6 +4,10 @@ ghost use Prim.Native.Nat.{_-_, _*_, _<_, _≤_};
 ghost use lib.ListN.{length};
 ghost use Rattle.greedy.specs.Search.{neighbour, reach, try-leftmost, try-lower, usable-starts, greedy};
 ghost use Rattle.greedy.specs.Answers.{seen, told, one-after-another, at-front};
+ghost use Rattle.greedy.specs.Laws.{Laws};
+
+#[cfg(test)]
+mod tests;
 
 /// Writes the columns that greedy finds to `out`, one after another, and answers how many there are.
 /// Number s of `untried` has the usable PEs of the standing row s, and is left with those that were not tried.
@@ -26,6 +30,11 @@ pub fn search(untried: &mut [u64], out: &mut [u8]) -> u32
     }
     columns
 }
+
+/// What greedy finds on any card, and what it tries.
+pub fn laws()
+    ensures { λ _. ⌜ Laws ⌝ }
+{}
 
 /// Whether a column can be completed from the PE in this column of the first row; it is written to `path`.
 fn reach(column: u8, untried: &mut [u64], path: &mut [u8]) -> bool

@@ -70,16 +70,6 @@ unfolding how-many-below
 how-many-same f g zero h = refl
 how-many-same f g (suc n) h = ap₂ (λ x b. x + cond b 1 0) (how-many-same f g n (λ i l. h i (omega arith))) (h n (omega arith))
 
--- where none from n on passes, n bound their number
-pub how-many-past : (f : ℕ → Bool) (n k : ℕ) → ((i : ℕ) → n ≤ i → f i ≡ false) → how-many-below f k ≤ n
-unfolding how-many-below
-how-many-past f n zero past = omega arith
-how-many-past f n (suc k) past =
-    ⊎-elim
-    (λ l. omega (arith, how-many-le f (suc k)))
-    (λ l. omega (arith, how-many-past f n k past, ap {B = ℕ} (λ b. cond b 1 0) (past k l)))
-    (cases-lt k n)
-
 pub least-same : (f g : ℕ → Bool) (n : ℕ) → ((i : ℕ) → i < n → f i ≡ g i) → least-below f n ≡ least-below g n
 unfolding least-below
 least-same f g zero h = refl

@@ -1,9 +1,8 @@
-use mathlib.Core.Path.{_≡_, ap, sym, _∙_}
-use mathlib.Core.Bool.{_&&_, not}
-use Prim.Native.Nat.{ℕ, _+_, _-_, _<_, min}
-use native.Mathlib.Omega.{arith}
-use lib.Dec.{ltb, leb}
-use Rattle.masks.specs.Masks.{bit, mask, least}
+use mathlib.Core.Path.{ap, _∙_}
+use mathlib.Core.Bool.{_&&_}
+use Prim.Native.Nat.{_+_, _-_}
+use lib.Dec.{leb}
+use Rattle.masks.specs.Masks.{bit}
 use Rattle.masks.proofs.Masks.{bit-mask-below}
 use Rattle.masks.proofs.Counts.{least-same}
 use Rattle.greedy.proofs.Near.{near-test}

@@ -1,10 +1,6 @@
-use mathlib.Core.Path.{_≡_, refl, sym, _∙_}
-use Prim.Native.Nat.{_+_, _*_, _≤_, _<_}
+use mathlib.Core.Path.{refl, sym}
 use native.Mathlib.Omega.{arith}
-use borrow.Author.Needs.{needs}
-use lib.ListN.{length, getD}
-use Rattle.std.specs.declared.option.Option.the-variants.{Some, None}
-use Rattle.masks.specs.Masks.{bit, least}
+use lib.ListN.{length}
 use Rattle.greedy.proofs.Going.{nothing-to-do, begun, after-found, after-found-less, after-missed, after-missed-less, has-room, finished}
 use Rattle.greedy.proofs.search.Needs as need
 

@@ -35,7 +35,7 @@ returns g c =
     let fits = enough (c .of-rows .result .count) (length (c .args .out .now)) (c .columns .ensures ∙ ap (λ (z : Size). z .columns) (c .size .ensures)) (c .if-out-columns .left) in
     let number = columns-are h r (c .of-rows .ensures) (length out) fits (c .search-columns .result) (c .search-columns .ensures .number) in
     let bytes = bytes-are h r (c .of-rows .ensures) (length out) fits out (c .search-columns .last .out) (c .search-columns .ensures .bytes) in
-    let total = c .total-charge-total .ensures ∙ total-is h r (c .of-rows .ensures) (length out) fits m (c .standing .result) (c .search-columns .result) out (c .search-columns .last .out) (c .standing .ensures) number bytes in
+    let total = c .total-charge-total .ensures ∙ total-is h r (c .of-rows .ensures) (length out) fits (omega arith) m (c .standing .result) (c .search-columns .result) out (c .search-columns .last .out) (c .standing .ensures) number bytes in
     let free = not-refused h r (c .of-rows .ensures) (length out) fits (omega arith) in
     record {
       answer = (λ t. Ok (number t, total t)) ∙ ap (λ o. answered o (counts h m)) (sym free);
