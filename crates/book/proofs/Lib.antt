@@ -2,3 +2,4 @@ mod Gathers
 mod Totals
 mod Finds
 mod Trials
+mod Lefts

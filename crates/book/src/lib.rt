@@ -2,6 +2,7 @@
 ghost use mathlib.Core.Path.{_≡_};
 ghost use Rattle.host.specs.Changes.{opened, marking, picturing, choosing, answer, after};
 ghost use Rattle.book.specs.Calls.{by-card};
+ghost use Rattle.book.specs.Laws.{Laws};
 use crate::refusal::Refusal;
 use crate::refusal::RefusalFromCard as _;
 use host::Host;
@@ -66,3 +67,8 @@ impl<T: Tariff> Book<T> {
         Ok(())
     }
 }
+
+/// What the definitions in the contracts tell of each other.
+pub fn laws()
+    ensures { λ _. ⌜ Laws ⌝ }
+{}

@@ -18,8 +18,8 @@ use Rattle.masks.proofs.Masks.{bit-mask}
 use Rattle.tariff.specs.Meaning.{in-grid, is-link}
 use Rattle.tariff.specs.Kinds.{links}
 use Rattle.tariff.specs.Charges.{link-charges, charge}
-use Rattle.masks.specs.Members.{passing}
-use Rattle.plans.specs.Columns.{Card, Usable, Near, Goes-on, Column-along, Down-from, Going-down, long-links}
+use Rattle.masks.specs.Members.{passing, members}
+use Rattle.plans.specs.Columns.{Card, Within, Usable, Near, Goes-on, Column-along, Down-from, Going-down, long-links}
 use Rattle.plans.specs.Families.{Pairwise}
 use Rattle.plans.specs.Masked.{in-mask}
 use Rattle.plans.specs.Theorems.{Masked-is-card, Masked-is-within, Masked-counts-rows, Links-count-long}
@@ -34,12 +34,16 @@ ascending-down : (rows : List ℕ) → Pairwise _<_ rows → Going-down rows
 ascending-down [] p = tt
 ascending-down (r ∷ rows) p = from-down r rows (p .0) (p .1)
 
-pub within : Masked-is-within
-within stand masks = record {
-  down = ascending-down (passing (bit stand) 64) (passing-ascends (bit stand) 64);
-  rows-limit = all-weaker (λ r. (r < 64) × (bit stand r ≡ true)) (λ r. r < 64) (λ r p. p .0) (passing (bit stand) 64) (passing-each (bit stand) 64);
-  columns-limit = λ r j usable. ltb-true j 64 (and-parts (ltb j 64) (bit (getD masks r 0) j) usable .0);
+-- a card of members of a set, with PEs in columns 0 to 63
+pub members-within : (stands : ℕ → Bool) (usable : ℕ → ℕ → Bool) → ((r j : ℕ) → usable r j ≡ true → j < 64) → Within (record { rows = members stands; usable = usable })
+members-within stands usable low = record {
+  down = ascending-down (passing stands 64) (passing-ascends stands 64);
+  rows-limit = all-weaker (λ r. (r < 64) × (stands r ≡ true)) (λ r. r < 64) (λ r p. p .0) (passing stands 64) (passing-each stands 64);
+  columns-limit = low;
 }
+
+pub within : Masked-is-within
+within stand masks = members-within (bit stand) (λ r. in-mask (getD masks r 0)) (λ r j e. ltb-true j 64 (and-parts (ltb j 64) (bit (getD masks r 0) j) e .0))
 
 -- a mask within the grid has the members of its test
 in-its-mask : (test : ℕ → Bool) (j : ℕ) → j < 64 → bit (mask test) j ≡ test j
