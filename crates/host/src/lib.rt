@@ -3,9 +3,9 @@ ghost use mathlib.Core.Path.{_≡_};
 ghost use Rattle.host.specs.Changes.{opened};
 ghost use Rattle.host.specs.Laws.{Laws};
 
-pub mod changes;
+mod changes;
 pub mod part;
-pub mod questions;
+mod questions;
 pub mod refusal;
 pub mod size;
 #[cfg(test)]

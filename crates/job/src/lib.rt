@@ -1,10 +1,10 @@
 //! Jobs: bytes that ask for calls on a card, and the listing of what came of them.
 ghost use Rattle.job.specs.Laws.{Laws};
 
-pub mod card;
+mod card;
 pub mod listing;
 mod page;
-pub mod record;
+mod record;
 pub mod refusal;
 #[cfg(test)]
 mod tests;
