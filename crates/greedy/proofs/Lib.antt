@@ -1,5 +1,7 @@
 mod Near
 mod Steps
+mod Counting
+mod Turns
 pub mod Going
 mod Rows
 mod Tries

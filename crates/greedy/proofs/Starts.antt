@@ -22,7 +22,7 @@ use Rattle.greedy.specs.Tries.{Tries}
 use Rattle.greedy.proofs.Rows.{off, without-is, Fewer, fewer-same, fewer-twice, Goes, goes-before, Shut, stays-right}
 use Rattle.greedy.proofs.Tries.{tries-none, tries-twice, tries-above}
 use Rattle.greedy.proofs.Columns.{Found, lower, reach-is, good}
-use Rattle.greedy.proofs.Going.{how-many-without}
+use Rattle.greedy.proofs.Counting.{how-many-without}
 
 -- a column down rows, by untried PEs
 abbrev pub Begins : List ℕ → List ℕ → Type 0

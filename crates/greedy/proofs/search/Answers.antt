@@ -1,7 +1,8 @@
 use mathlib.Core.Path.{refl, sym}
 use native.Mathlib.Omega.{arith}
 use lib.ListN.{length}
-use Rattle.greedy.proofs.Going.{nothing-to-do, begun, after-found, after-found-less, after-missed, after-missed-less, has-room, finished}
+use Rattle.greedy.proofs.Turns.{after-found-less, after-missed-less}
+use Rattle.greedy.proofs.Going.{nothing-to-do, begun, after-found, after-missed, has-room, finished}
 use Rattle.greedy.proofs.search.Needs as need
 
 pub returns-then-rows-eq0 : need.returns-then-rows-eq0
