@@ -39,11 +39,14 @@ always-room h later =
     let most : h .size .columns * standing (card-of h) ≤ 64 * 64 = mul-le _ _ 64 64 (h .size .sized .3) (length-passing (stands h) 64) in
     cond-false _ (Some ShortBuffer) later (le-ltb 4096 (h .size .columns * standing (card-of h)) most)
 
+pub room-for-any : (h : Host) → greedy-refusal h 4096 ≡ refuse (rowless h) NoRow None
+room-for-any h = ap (refuse (rowless h) NoRow) (always-room h None)
+
 as-greedy : (h : Host) (m : Meaning) (row : ℕ) → refusal (h .size) (choosing row 0) ≡ None → greedy-answer (left-out h row) m 4096 ≡ trial-answer h m row
 as-greedy h m row e =
     let g = left-out h row in
     ap (λ o. answered o (counts g m))
-    (ap (refuse (rowless g) NoRow) (always-room g None)
+    (room-for-any g
     ∙ sym (cond-false (not (ltb row (h .size .rows))) (Some (Card Outside)) (refuse (rowless g) NoRow None) (passed _ _ _ e .0)))
 
 pub trial-is : (h g : Host) (m : Meaning) (row : ℕ) (r : Result (ℕ × ℕ) Refusal) → refusal (h .size) (choosing row 0) ≡ None → g ≡ left-out h row → r ≡ greedy-answer g m 4096 → r ≡ trial-answer h m row
