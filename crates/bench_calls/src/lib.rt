@@ -1,4 +1,6 @@
 //! The calls that the benchmarks in bench/ time, for C++.
+#![tactic(auto)]
+
 ghost use Rattle.std.specs.Prelude.{◌≡◌, length};
 ghost use Rattle.bench_calls.specs.Timed.{columns_of, bytes_of};
 

@@ -1,4 +1,6 @@
 //! The book of a card: its map and its tariff, and the calls on them.
+#![tactic(auto)]
+
 ghost use Rattle.std.specs.Prelude.{◌≡◌};
 ghost use Rattle.host.specs.Changes.{opened, marking, picturing, choosing, answer, after};
 ghost use Rattle.book.specs.Calls.{by_card};

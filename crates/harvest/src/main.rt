@@ -1,4 +1,6 @@
 //! Reads a job from standard input and writes its listing to standard output.
+#![tactic(auto)]
+
 use std::io;
 use std::io::{Read, Write};
 

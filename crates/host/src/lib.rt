@@ -1,4 +1,6 @@
 //! The map of one card: which PEs and switches are faulty, and which rows are chosen.
+#![tactic(auto)]
+
 ghost use Rattle.std.specs.Prelude.{◌≡◌};
 ghost use Rattle.host.specs.Changes.{opened};
 ghost use Rattle.host.specs.Laws.{Laws};

@@ -1,4 +1,6 @@
 //! Jobs: bytes that ask for calls on a card, and the listing of what came of them.
+#![tactic(auto)]
+
 ghost use Rattle.job.specs.Laws.{Laws};
 
 mod card;

@@ -1,4 +1,6 @@
 //! Sets of the numbers 0 to 63, each held as the bits of a `u64`.
+#![tactic(auto)]
+
 ghost use Rattle.std.specs.Prelude.{◌≡◌, not, ◌&&◌, if◌then◌else◌, nat_eq, nat_lt};
 ghost use Rattle.masks.specs.Masks.{bit, mask, how_many, least};
 ghost use Rattle.masks.specs.Laws.{Laws};

@@ -1,4 +1,6 @@
 //! A tariff of its own, as a user of the library would write one, and tests of all tariffs and of least prices.
+#![tactic(auto)]
+
 ghost use Rattle.own_tariff.specs.Span.{span};
 ghost use Rattle.std.proofs.Common.{rules};
 

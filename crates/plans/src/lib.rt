@@ -1,4 +1,6 @@
 //! Columns, families, tolls and plans: the definitions are in specs/, and the laws stand on the contracts below.
+#![tactic(auto)]
+
 ghost use Rattle.plans.specs.Example.{Example};
 ghost use Rattle.plans.specs.Theorems.{TollsProveBest, BestIsUncrossed, PlansAreBest, FamiliesAreSmall};
 ghost use Rattle.plans.specs.Theorems.{LeastIsLeast, LeastTells, LabelsGivePlan};

@@ -1,4 +1,6 @@
 //! Least prices, row by row: whether some logical column is priced below the worth.
+#![tactic(auto)]
+
 ghost use Rattle.std.specs.Prelude.{◌≡◌, ℕ, ◌+◌, ◌^◌, ◌<◌, true, ◌↔◌, length};
 ghost use Rattle.plans.specs.Tolls.{worth, Underpriced};
 ghost use Rattle.plans.specs.Least.{capped, coming_to, least_row};

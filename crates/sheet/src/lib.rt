@@ -1,4 +1,6 @@
 //! Sheets: the records of a plan as bytes, a reader that takes them in their turn, and a writer for producers.
+#![tactic(auto)]
+
 ghost use Rattle.sheet.specs.Laws.{Laws};
 
 pub mod fault;

@@ -1,4 +1,6 @@
 //! What a PE and a link cost: the interface of a tariff, three tariffs, and the charge of a column.
+#![tactic(auto)]
+
 ghost use Rattle.std.specs.Prelude.{◌≡◌};
 ghost use Rattle.tariff.specs.Meaning.{Meaning, Lawful, in_grid, is_link};
 ghost use Rattle.tariff.specs.Refusals.{number};

@@ -1,4 +1,6 @@
 //! Which sheets are accepted: the judge of a sheet as a definition, and the laws of sheets and plans.
+#![tactic(auto)]
+
 ghost use Rattle.verdict.specs.Theorems.{AcceptedIsPlan, AcceptedAgain, AcceptedBest, SheetsOfBest, PlanIsRun, SheetsAreShort};
 
 pub mod fault;
