@@ -4,10 +4,10 @@ use Rattle.greedy.proofs.Steps.{last, given_up, completed}
 use Rattle.greedy.proofs.+reach_try_leftmost_try_lower.Goals as goal
 use Rattle.greedy.proofs.+reach_try_leftmost_try_lower.Goals.{reach-else-untried-gt1-via-then-untried-gt1+else-not-try-lower, reach-else-untried-gt1-via-else-untried-gt1}
 
-pub reach-returns-then-not-try-lower : goal.reach-returns-then-not-try-lower
-reach-returns-then-not-try-lower t c =
+pub reach-returns-then-not-try_lower : goal.reach-returns-then-not-try_lower
+reach-returns-then-not-try_lower t c =
     given_up c.args.column c.with.result c.args.untried.now c.args.path.now (c.with.ensures, c.requires.0, c.requires.1)
-    c.if-untried-gt1.true c.try-lower.new.untried c.try-lower.new.path c.if-not-try-lower.ensures
+    c.if-untried-gt1.true c.try_lower.new.untried c.try_lower.new.path c.if-not-try_lower.ensures
 
 pub reach-returns : goal.reach-returns
 reach-returns t c =
@@ -15,7 +15,7 @@ reach-returns t c =
       | reach-else-untried-gt1-via-then-untried-gt1+else-not-try-lower w ↦
           ap₂ (λ p u. seen true (set p 0 c.args.column) u) w.path-is w.untried_is
           ∙ completed c.args.column c.with.result c.args.untried.now c.args.path.now (c.with.ensures, c.requires.0, c.requires.1)
-          w.if-untried-gt1.true w.try-lower.new.untried w.try-lower.new.path w.if-not-try-lower.ensures
+          w.if-untried-gt1.true w.try_lower.new.untried w.try_lower.new.path w.if-not-try_lower.ensures
       | reach-else-untried-gt1-via-else-untried-gt1 w ↦
           ap₂ (λ p u. seen true (set p 0 c.args.column) u) w.path-is w.untried_is
           ∙ last c.args.column c.with.result c.args.untried.now c.args.path.now (c.with.ensures, c.requires.0, c.requires.1) w.if-untried-gt1.false

@@ -15,5 +15,5 @@ returns c =
     ap (λ m. bit m k) c.common.ensures ∙ bit-mask_below _ 64 k h
     ∙ ap (λ b. bit row k && b)
     (ap (λ m. bit m k) c.without-near.ensures ∙ bit-mask_below _ 64 k h
-    ∙ near_test j k c.saturating-add.result c.saturating-sub.result c.below.result c.below-2.result h
-    c.saturating-add.ensures c.saturating-sub.ensures c.below.ensures c.below-2.ensures))
+    ∙ near_test j k c.saturating_add.result c.saturating_sub.result c.below.result c.below-2.result h
+    c.saturating_add.ensures c.saturating_sub.ensures c.below.ensures c.below-2.ensures))

@@ -11,14 +11,14 @@ returns-then-rows-eq0 c =
 pub loop-start-init : goal.loop-start-init
 loop-start-init c = begun (length c.args.untried.now) c.args.untried.now c.args.out.now c.requires
 
-pub overflow-cast-at : goal.overflow-cast-at
-overflow-cast-at c = omega (arith, c.loop-start.invariant.few)
+pub overflow_cast-at : goal.overflow_cast-at
+overflow_cast-at c = omega (arith, c.loop-start.invariant.few)
 
-pub overflow-mul-at : goal.overflow-mul-at
-overflow-mul-at c = omega (arith, c.loop-start.invariant.room, c.well-formed)
+pub overflow_mul-at : goal.overflow_mul-at
+overflow_mul-at c = omega (arith, c.loop-start.invariant.room, c.well-formed)
 
-pub slice-bounds-reach-end : goal.slice-bounds-reach-end
-slice-bounds-reach-end c =
+pub slice_bounds-reach-end : goal.slice_bounds-reach-end
+slice_bounds-reach-end c =
     let room =
     has_room (length c.args.untried.now) c.args.untried.now c.args.out.now c.loop-start.columns c.in-Some.start
     c.loop-start.untried c.loop-start.out c.loop-start.invariant (omega arith) (sym c.in-Some.ensures) in
@@ -49,5 +49,5 @@ loop-start-preserved c =
 pub returns : goal.returns
 returns c =
     let end = finished (length c.args.untried.now) c.args.untried.now c.args.out.now c.loop-start.columns c.loop-start.out
-    c.loop-start.auto.out c.loop-start.untried c.loop-start.invariant (omega arith) (sym c.in-default.ensures) in
+    c.loop-start.auto.out c.loop-start.untried c.loop-start.invariant (omega arith) (sym c.in_default.ensures) in
     record { number = end.0; bytes = end.1; untried = end.2 }

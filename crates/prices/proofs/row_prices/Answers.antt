@@ -20,7 +20,7 @@ loop-column-preserved g c =
     let before = price_row c.args.least.now in
     let f : ℕ → ℕ = least_row (in_mask c.args.usable) m tolls c.args.above before c.args.row in
     let comes : ℕ = coming_to m c.args.above before c.args.row column in
-    let price : c.up-to-worth.result ≡ f column =
-    capped-in_mask c.args.usable column _ _ _ comes (tolls column) _ c.loop-column-test.true c.up-to-worth.ensures c.has.ensures
-    c.price-to.ensures.value c.from.ensures in
+    let price : c.up_to_worth.result ≡ f column =
+    capped-in_mask c.args.usable column _ _ _ comes (tolls column) _ c.loop-column-test.true c.up_to_worth.ensures c.has.ensures
+    c.price_to.ensures.value c.from.ensures in
     (simp length-set c.loop-column.invariant.0, set_more f c.loop-column.prices column _ (omega (arith, c.loop-column.invariant.0)) c.loop-column.invariant.1 price)

@@ -18,12 +18,12 @@ loop-row-preserved g c =
     elim c.if-has.branch [
       | then-has w ↦
           simp (w.least-is, w.above-is)
-          (w.row-prices-least.ensures.long, sofar_yes card m toll test _ _ _ _ c.loop-row.invariant.1 (sym c.has.ensures ∙ w.if-has.true) w.row-prices-least.ensures.least)
+          (w.row_prices-least.ensures.long, sofar_yes card m toll test _ _ _ _ c.loop-row.invariant.1 (sym c.has.ensures ∙ w.if-has.true) w.row_prices-least.ensures.least)
       | else-has w ↦ simp (w.least-is, w.above-is) (c.loop-row.invariant.0, sofar_no card m toll test _ _ _ c.loop-row.invariant.1 (sym c.has.ensures ∙ w.if-has.false))
     ]
 
 pub returns : goal.returns
 returns g c =
-    let told = c.some-below-worth.ensures in
+    let told = c.some_below_worth.ensures in
     let tells = sofar_tells c.args.standing c.args.usable.now (g.T.Tariff.meaning c.args.tariff.now) (toll_table c.args.tolls.now) _ _ _ c.loop-row.invariant.1 (omega arith) in
     ((λ e. tells.0 (told.0 e)), λ u. told.1 (tells.1 u))

@@ -14,9 +14,9 @@ pub returns : goal.returns
 returns g c =
     let h = c.args.self.now.host in
     let m = g.T.Tariff.meaning c.args.self.now.tariff in
-    let free = unrefused (refusal h.size (choosing c.args.row 0)) _ (sym c.choose.ensures.answer ∙ c.in-ok-choose.was) in
+    let free = unrefused (refusal h.size (choosing c.args.row 0)) _ (sym c.choose.ensures.answer ∙ c.in_ok-choose.was) in
     record {
-      answer = trial_is h c.choose.new.self m c.args.row c.greedy-on.result free c.choose.ensures.map c.greedy-on.ensures.answer;
+      answer = trial_is h c.choose.new.self m c.args.row c.greedy_on.result free c.choose.ensures.map c.greedy_on.ensures.answer;
       same = ap (λ k. record { host = k; tariff = c.args.self.now.tariff })
           (put_back h c.choose.new.self c.drop-guard-2.new.self.0 c.args.row c.chosen-was.result c.choose.ensures.map c.chosen-was.ensures c.drop-guard-2.ensures);
     }

@@ -5,26 +5,26 @@ use Rattle.book.specs.Charges.{charges}
 use Rattle.book.proofs.Totals.{column_fits, charges-none, one_more, charges_limit}
 use Rattle.book.proofs.charges.total_charge.Goals as goal
 
-pub slice-bounds-column-charge-end : goal.slice-bounds-column-charge-end
-slice-bounds-column-charge-end g c =
+pub slice_bounds-column_charge-end : goal.slice_bounds-column_charge-end
+slice_bounds-column_charge-end g c =
     let fits = column_fits c.loop-n.n c.args.columns c.args.rows (length c.args.bytes.now) c.loop-n-test.true c.requires.0 in
     search rules
 
 pub loop-n-init : goal.loop-n-init
 loop-n-init g c = charges-none (g.T.Tariff.meaning c.args.tariff.now) (members (bit c.args.standing)) c.args.bytes.now c.args.rows
 
-pub overflow-add-total : goal.overflow-add-total
-overflow-add-total g c =
+pub overflow_add-total : goal.overflow_add-total
+overflow_add-total g c =
     let m = g.T.Tariff.meaning c.args.tariff.now in
     let standing = bit c.args.standing in
-    let next = one_more m (members standing) c.args.bytes.now c.args.rows c.loop-n.n c.loop-n.total c.column-charge-total.result c.loop-n.invariant c.column-charge-total.ensures in
+    let next = one_more m (members standing) c.args.bytes.now c.args.rows c.loop-n.n c.loop-n.total c.column_charge-total.result c.loop-n.invariant c.column_charge-total.ensures in
     let most = charges_limit m (g.met.T.Tariff.lawful c.args.tariff.now) standing c.args.bytes.now c.args.rows (c.loop-n.n + 1) in
     omega (arith, next, most, c.requires.1)
 
 pub loop-n-preserved : goal.loop-n-preserved
 loop-n-preserved g c =
-    one_more (g.T.Tariff.meaning c.args.tariff.now) (members (bit c.args.standing)) c.args.bytes.now c.args.rows c.loop-n.n c.loop-n.total c.column-charge-total.result
-    c.loop-n.invariant c.column-charge-total.ensures
+    one_more (g.T.Tariff.meaning c.args.tariff.now) (members (bit c.args.standing)) c.args.bytes.now c.args.rows c.loop-n.n c.loop-n.total c.column_charge-total.result
+    c.loop-n.invariant c.column_charge-total.ensures
 
 pub returns : goal.returns
 returns g c =

@@ -15,8 +15,8 @@ search-columns-requires g c =
     let fits = enough c.of-rows.result.count (length c.args.out.now) (c.columns.ensures ∙ ap (λ (z : Size). z.columns) c.size.ensures) c.if-out-columns.false in
     starts_fit h c.of-rows.result c.of-rows.ensures (length c.args.out.now) fits
 
-pub total-charge-total-requires : goal.total-charge-total-requires
-total-charge-total-requires g c =
+pub total_charge-total-requires : goal.total_charge-total-requires
+total_charge-total-requires g c =
     let h = c.args.host.now in
     let fits = enough c.of-rows.result.count (length c.args.out.now) (c.columns.ensures ∙ ap (λ (z : Size). z.columns) c.size.ensures) c.if-out-columns.false in
     let all = columns_fit h c.of-rows.result c.of-rows.ensures (length c.args.out.now) fits c.search-columns.result c.search-columns.ensures.number in
@@ -31,7 +31,7 @@ returns g c =
     let fits = enough c.of-rows.result.count (length c.args.out.now) (c.columns.ensures ∙ ap (λ (z : Size). z.columns) c.size.ensures) c.if-out-columns.false in
     let number = columns_are h r c.of-rows.ensures (length out) fits c.search-columns.result c.search-columns.ensures.number in
     let bytes = bytes_are h r c.of-rows.ensures (length out) fits out c.search-columns.new.out c.search-columns.ensures.bytes in
-    let total = c.total-charge-total.ensures ∙ total_is h r c.of-rows.ensures (length out) fits (omega arith) m c.standing.result c.search-columns.result out c.search-columns.new.out c.standing.ensures number bytes in
+    let total = c.total_charge-total.ensures ∙ total_is h r c.of-rows.ensures (length out) fits (omega arith) m c.standing.result c.search-columns.result out c.search-columns.new.out c.standing.ensures number bytes in
     let free = not_refused h r c.of-rows.ensures (length out) fits (omega arith) in
     record {
       answer = (λ t. Ok (number t, total t)) ∙ ap (λ o. answered o (counts h m)) (sym free);

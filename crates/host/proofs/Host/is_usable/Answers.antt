@@ -5,4 +5,4 @@ use Rattle.host.proofs.Host.is_usable.Goals as goal
 
 pub returns : goal.returns
 returns c =
-    c.has.ensures ∙ ap (λ m. bit m c.args.column) c.usable-in.ensures ∙ bit-usable c.args.self.now c.args.row c.args.column
+    c.has.ensures ∙ ap (λ m. bit m c.args.column) c.usable_in.ensures ∙ bit-usable c.args.self.now c.args.row c.args.column

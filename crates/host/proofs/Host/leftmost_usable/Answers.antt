@@ -8,4 +8,4 @@ use Rattle.host.proofs.Host.leftmost_usable.Goals as goal
 pub returns : goal.returns
 returns c =
     let test = usable c.args.self.now c.args.row in
-    c.lowest.ensures ∙ ap (λ m. least (bit m)) c.usable-in.ensures ∙ least-same (bit (mask test)) test 64 (bit-mask_below test 64)
+    c.lowest.ensures ∙ ap (λ m. least (bit m)) c.usable_in.ensures ∙ least-same (bit (mask test)) test 64 (bit-mask_below test 64)

@@ -13,7 +13,7 @@ loop-i-preserved c =
     let h = c.args.self.now in
     let i = c.loop-i.i in
     c.with-rows.ensures
-    ∙ (λ p. mask (λ j. cond (eqb j i) (c.is-standing.ensures p) (bit (c.loop-i.invariant p) j)))
+    ∙ (λ p. mask (λ j. cond (eqb j i) (c.is_standing.ensures p) (bit (c.loop-i.invariant p) j)))
     ∙ mask-more (stands h) i (omega (arith, h.size.sized.1, c.rows-i-end.ensures))
 
 pub returns : goal.returns

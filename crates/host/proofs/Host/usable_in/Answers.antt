@@ -30,10 +30,10 @@ returns c =
     let up : (j : ℕ) → j < h.size.columns → bit c.if-row-eq0.above j ≡ faulty_above h i j =
     λ j k. elim c.if-row-eq0.branch [
       | then-row-eq0 w ↦ ap (λ a. bit a j) w.above-is ∙ above_first h i (omega (arith, w.if-row-eq0.true)) j
-      | else-row-eq0 w ↦ ap (λ a. bit a j) w.above-is ∙ w.switches-below-above.ensures j k ∙ above_next h i (omega (arith, w.if-row-eq0.false)) j
+      | else-row-eq0 w ↦ ap (λ a. bit a j) w.above-is ∙ w.switches_below-above.ensures j k ∙ above_next h i (omega (arith, w.if-row-eq0.false)) j
     ]
     in
     let full : c.below.result ≡ mask (λ k. ltb k h.size.columns) = c.below.ensures ∙ ap (λ n. mask (λ k. ltb k n)) c.columns.ensures in
     c.without.ensures
-    ∙ ap (λ m. mask (λ j. bit m j && not (bit (bit_or (bit_or (get_or h.pes i 0) c.if-row-eq0.above) c.switches-below.result) j))) full
-    ∙ usable-mask h i c.if-row-eq0.above c.switches-below.result (omega arith) up c.switches-below.ensures
+    ∙ ap (λ m. mask (λ j. bit m j && not (bit (bit_or (bit_or (get_or h.pes i 0) c.if-row-eq0.above) c.switches_below.result) j))) full
+    ∙ usable-mask h i c.if-row-eq0.above c.switches_below.result (omega arith) up c.switches_below.ensures

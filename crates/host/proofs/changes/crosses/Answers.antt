@@ -11,8 +11,8 @@ use Rattle.host.proofs.changes.crosses.Goals.{in-46, in-X}
 pub loop-i-init : goal.loop-i-init
 loop-i-init c = (mask-none (crossed c.args.text.now), refl)
 
-pub returns-in-default : goal.returns-in-default
-returns-in-default c =
+pub returns-in_default : goal.returns-in_default
+returns-in_default c =
     let text = c.args.text.now in
     sym (cond-false (drawn text) (Ok (mask (crossed text))) (Err BadCharacter) (c.loop-i.invariant.1 ∙ stray text c.loop-i.i c.loop-i-test.true (omega arith) (omega arith)))
 

@@ -13,10 +13,10 @@ returns-in-Err c =
     let room : length out ≡ 65536 = omega arith in
     let why : listed job 65536 ≡ Err c.in-Err.x = ap (listed job) (sym room) ∙ sym c.list.ensures.answer ∙ c.in-Err.is in
     let says : refused c.number.result ≡ printed job = ap refused c.number.ensures ∙ ap (λ r. printed_as r (listing job)) (sym why) in
-    let laid = laid_as _ _ says c.put-refused.ensures.laid in
+    let laid = laid_as _ _ says c.put_refused.ensures.laid in
     let kept : c.list.new.out ≡ out = c.in-Err.ensures.buffer in
     record {
       answer = laid.behind ∙ zero-add (length (printed job));
-      buffer = laid_front laid (omega (arith, laid.behind, c.put-refused.ensures.short, ap length kept)) ∙ ap (at_front (printed job)) kept;
-      fits = omega (arith, c.put-refused.ensures.short);
+      buffer = laid_front laid (omega (arith, laid.behind, c.put_refused.ensures.short, ap length kept)) ∙ ap (at_front (printed job)) kept;
+      fits = omega (arith, c.put_refused.ensures.short);
     }

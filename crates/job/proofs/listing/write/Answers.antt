@@ -8,8 +8,8 @@ use Rattle.job.proofs.listing.write.Goals as goal
 pub loop-at-init : goal.loop-at-init
 loop-at-init c = (omega arith, omega arith, ([], laid-none c.args.page.now 0, refl))
 
-pub put-line-used-requires : goal.put-line-used-requires
-put-line-used-requires c = omega (arith, c.requires, c.loop-at.invariant.0, c.loop-at.invariant.1)
+pub put_line-used-requires : goal.put_line-used-requires
+put_line-used-requires c = omega (arith, c.requires, c.loop-at.invariant.0, c.loop-at.invariant.1)
 
 pub loop-at-preserved : goal.loop-at-preserved
 loop-at-preserved c =
@@ -19,10 +19,10 @@ loop-at-preserved c =
     let job = c.args.job.now in
     let rest = drop entry.next job in (
       c.read-entry.ensures.within,
-      omega (arith, c.loop-at.invariant.1, c.put-line-used.ensures.short, c.read-entry.ensures.forward),
+      omega (arith, c.loop-at.invariant.1, c.put_line-used.ensures.short, c.read-entry.ensures.forward),
       (
         so_far.0 ++ new,
-        laid_then so_far.0 new so_far.1 c.put-line-used.ensures.laid,
+        laid_then so_far.0 new so_far.1 c.put_line-used.ensures.laid,
         append_assoc so_far.0 new (told_from (option_map map_of c.apply-reply.new.book) rest)
             ∙ ap (λ more. so_far.0 ++ more)
             (told_at (option_map map_of c.loop-at.book) (option_map map_of c.apply-reply.new.book) job c.loop-at.at entry c.apply-reply.result c.loop-at-test.true c.read-entry.ensures c.apply-reply.ensures.answer c.apply-reply.ensures.map)

@@ -21,13 +21,13 @@ put-requires t c = omega (arith, c.requires, ap length (one c.args.n c.ranges.n.
 pub returns-then-n-lt10 : goal.returns-then-n-lt10
 returns-then-n-lt10 t c = laid_as _ _ (sym (one c.args.n c.ranges.n.fits c.if-n-lt10.true)) c.put.ensures
 
-pub put-decimal-next-requires : goal.put-decimal-next-requires
-put-decimal-next-requires t c = (omega (arith, c.decreases), omega (arith, c.requires, longer c.args.n c.ranges.n.fits c.if-n-lt10.false))
+pub put_decimal-next-requires : goal.put_decimal-next-requires
+put_decimal-next-requires t c = (omega (arith, c.decreases), omega (arith, c.requires, longer c.args.n c.ranges.n.fits c.if-n-lt10.false))
 
 pub put-requires-2 : goal.put-requires-2
-put-requires-2 t c = omega (arith, c.requires, c.put-decimal-next.ensures.behind, longer c.args.n c.ranges.n.fits c.if-n-lt10.false)
+put-requires-2 t c = omega (arith, c.requires, c.put_decimal-next.ensures.behind, longer c.args.n c.ranges.n.fits c.if-n-lt10.false)
 
 pub returns : goal.returns
 returns t c =
     laid_as _ _ (sym (more c.args.n c.ranges.n.fits c.if-n-lt10.false))
-    (laid_then (decimal (c.args.n / 10)) ((48 + c.args.n % 10) ∷ []) c.put-decimal-next.ensures c.put-2.ensures)
+    (laid_then (decimal (c.args.n / 10)) ((48 + c.args.n % 10) ∷ []) c.put_decimal-next.ensures c.put-2.ensures)

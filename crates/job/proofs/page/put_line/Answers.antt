@@ -10,8 +10,8 @@ head high low = high ∷ low ∷ 32 ∷ []
 pub returns-in-Ok : goal.returns-in-Ok
 returns-in-Ok c =
     record {
-      laid = laid_as _ _ (λ t. head (c.hex.ensures t) (c.hex-2.ensures t) ++ said (sym c.in-Ok.is t)) (laid_then _ _ c.put-all-next.ensures c.put-answer.ensures.laid);
-      short = omega (arith, c.put-all-next.ensures.behind, c.put-answer.ensures.short);
+      laid = laid_as _ _ (λ t. head (c.hex.ensures t) (c.hex-2.ensures t) ++ said (sym c.in-Ok.is t)) (laid_then _ _ c.put_all-next.ensures c.put_answer.ensures.laid);
+      short = omega (arith, c.put_all-next.ensures.behind, c.put_answer.ensures.short);
     }
 
 pub returns-in-Err : goal.returns-in-Err
@@ -19,6 +19,6 @@ returns-in-Err c =
     record {
       laid =
           laid_as _ _ (λ t. head (c.hex.ensures t) (c.hex-2.ensures t) ++ (ap refused c.number.ensures ∙ ap said (sym c.in-Err.is)) t)
-          (laid_then _ _ c.put-all-next.ensures c.put-refused.ensures.laid);
-      short = omega (arith, c.put-all-next.ensures.behind, c.put-refused.ensures.short);
+          (laid_then _ _ c.put_all-next.ensures c.put_refused.ensures.laid);
+      short = omega (arith, c.put_all-next.ensures.behind, c.put_refused.ensures.short);
     }

@@ -28,18 +28,18 @@ module _ (s : List ℕ) (at : ℕ) (h : at < length s) where
 pub returns-then-at-sheet : goal.returns-then-at-sheet
 returns-then-at-sheet c = sym (ap (record_from c.args.at) (drop_all c.args.at c.args.sheet.now (omega arith)))
 
-pub returns-in-default : goal.returns-in-default
-returns-in-default c = sym (unknown c.args.sheet.now c.args.at (omega arith) (sym c.of.ensures ∙ c.in-default.is))
+pub returns-in_default : goal.returns-in_default
+returns-in_default c = sym (unknown c.args.sheet.now c.args.at (omega arith) (sym c.of.ensures ∙ c.in_default.is))
 
 pub returns-then-sheet-start : goal.returns-then-sheet-start
 returns-then-sheet-start c =
-    sym (cut c.args.sheet.now c.args.at (omega arith) c.in-Some.kind (sym c.of.ensures ∙ c.in-Some.is) (omega (arith, c.body-length-length.ensures)))
+    sym (cut c.args.sheet.now c.args.at (omega arith) c.in-Some.kind (sym c.of.ensures ∙ c.in-Some.is) (omega (arith, c.body_length-length.ensures)))
 
 pub returns : goal.returns
 returns c =
     let s = c.args.sheet.now in
     let start = c.args.at + 1 in
     let kind = c.in-Some.kind in
-    let n : start + c.body-length-length.result - start ≡ body_length kind = omega (arith, c.body-length-length.ensures) in
+    let n : start + c.body_length-length.result - start ≡ body_length kind = omega (arith, c.body_length-length.ensures) in
     ap (λ (m : ℕ). Ok (kind, take m (drop start s))) n
-    ∙ sym (whole s c.args.at (omega arith) kind (sym c.of.ensures ∙ c.in-Some.is) (omega (arith, c.body-length-length.ensures)))
+    ∙ sym (whole s c.args.at (omega arith) kind (sym c.of.ensures ∙ c.in-Some.is) (omega (arith, c.body_length-length.ensures)))

@@ -14,7 +14,7 @@ loop-row-preserved g c =
     let ks = c.args.columns.now in
     elim c.if-has.branch [
       | then-has+then-place-columns w ↦
-          simp (w.sum-is, w.place-is, w.above-is, w.added-charge-sum.ensures)
+          simp (w.sum-is, w.place-is, w.above-is, w.added_charge-sum.ensures)
           (sofar_yes m test ks _ _ _ _ c.loop-row.invariant (sym c.has.ensures ∙ w.if-has.true) w.if-place-columns.true)
       | else-has w ↦
           simp (w.sum-is, w.place-is, w.above-is)
@@ -24,10 +24,10 @@ loop-row-preserved g c =
           ])
     ]
 
-pub overflow-add-sum : goal.overflow-add-sum
-overflow-add-sum g c =
+pub overflow_add-sum : goal.overflow_add-sum
+overflow_add-sum g c =
     let m = g.T.Tariff.meaning c.args.tariff.now in
     let law = g.met.T.Tariff.lawful c.args.tariff.now in
     let so_far = sofar_limit m (bit c.args.standing) c.args.columns.now _ _ _ _ c.loop-row.invariant law in
     let next = next_limit m law c.loop-row.above c.args.columns.now c.loop-row.place c.loop-row.row in
-    omega (arith, so_far, next, c.added-charge-sum.ensures)
+    omega (arith, so_far, next, c.added_charge-sum.ensures)

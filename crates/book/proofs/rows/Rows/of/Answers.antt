@@ -13,11 +13,11 @@ loop-row-init c = none_yet c.args.host.now
 pub bounds-usable-count : goal.bounds-usable-count
 bounds-usable-count c = omega (arith, few c.args.host.now c.loop-row.row c.loop-row.usable c.loop-row.count c.loop-row.invariant)
 
-pub offset-bounds-usable-count : goal.offset-bounds-usable-count
-offset-bounds-usable-count c = omega (arith, few c.args.host.now c.loop-row.row c.loop-row.usable c.loop-row.count c.loop-row.invariant)
+pub offset_bounds-usable-count : goal.offset_bounds-usable-count
+offset_bounds-usable-count c = omega (arith, few c.args.host.now c.loop-row.row c.loop-row.usable c.loop-row.count c.loop-row.invariant)
 
-pub overflow-add-count : goal.overflow-add-count
-overflow-add-count c = omega (arith, few c.args.host.now c.loop-row.row c.loop-row.usable c.loop-row.count c.loop-row.invariant)
+pub overflow_add-count : goal.overflow_add-count
+overflow_add-count c = omega (arith, few c.args.host.now c.loop-row.row c.loop-row.usable c.loop-row.count c.loop-row.invariant)
 
 as_left : (h : Host) (n : ℕ) {rows rows' : List ℕ} {count count' : ℕ} → rows ≡ rows' → count ≡ count' → Sofar h n rows' count' → Sofar h n rows count
 as_left h n {rows} {rows'} {count} {count'} e f so = subst (λ xs. Sofar h n xs count) (sym e) (subst (Sofar h n rows') (sym f) so)
@@ -29,7 +29,7 @@ loop-row-preserved c =
     let told : c.has.result ≡ stands h l.row = c.has.ensures ∙ ap (λ m. bit m l.row) c.standing-standing.ensures ∙ bit-mask_below (stands h) 64 l.row c.loop-row-test.true in
     elim c.if-has.branch [
       | then-has w ↦
-          as_left h (l.row + 1) (w.usable-is ∙ ap (set l.usable l.count) w.usable-in.ensures) w.count-is
+          as_left h (l.row + 1) (w.usable-is ∙ ap (set l.usable l.count) w.usable_in.ensures) w.count-is
           (one_more h l.row l.usable l.count l.invariant c.loop-row-test.true (sym told ∙ w.if-has.true))
       | else-has w ↦ as_left h (l.row + 1) w.usable-is w.count-is (passed_over h l.row l.usable l.count l.invariant (sym told ∙ w.if-has.false))
     ]

@@ -34,15 +34,15 @@ module _ (job : List ℕ) (i : ℕ) where
         within = omega arith;
       }
 
-pub returns-in-default : goal.returns-in-default
-returns-in-default c =
+pub returns-in_default : goal.returns-in_default
+returns-in_default c =
     let job = c.args.job.now in
-    faulty job c.args.at UnknownKind c.requires (unknown job c.args.at (sym c.in-default.is ∙ c.of.ensures))
+    faulty job c.args.at UnknownKind c.requires (unknown job c.args.at (sym c.in_default.is ∙ c.of.ensures))
 
 pub returns-then-job-start : goal.returns-then-job-start
 returns-then-job-start c =
     let job = c.args.job.now in
-    let short : length (drop (c.args.at + 1) job) < body_length c.in-Some.known = omega (arith, length-drop (c.args.at + 1) job, c.if-job-start.true, c.body-length.ensures) in
+    let short : length (drop (c.args.at + 1) job) < body_length c.in-Some.known = omega (arith, length-drop (c.args.at + 1) job, c.if-job-start.true, c.body_length.ensures) in
     faulty job c.args.at CutShort c.requires (cut job c.args.at c.in-Some.known (sym c.in-Some.is ∙ c.of.ensures) short)
 
 pub returns : goal.returns
@@ -50,11 +50,11 @@ returns c =
     let job = c.args.job.now in
     let start = c.args.at + 1 in
     let known = c.in-Some.known in
-    let r = whole job c.args.at known (sym c.in-Some.is ∙ c.of.ensures) (omega (arith, length-drop start job, c.if-job-start.false, c.body-length.ensures)) in
+    let r = whole job c.args.at known (sym c.in-Some.is ∙ c.of.ensures) (omega (arith, length-drop start job, c.if-job-start.false, c.body_length.ensures)) in
     record {
       kind = refl;
       content = ap Ok (c.read.ensures ∙ ap (record_of known) (take_rest job start)) ∙ sym (ap (λ (r : Reading). r.content) r);
-      rest = ap (λ n. drop (start + n) job) c.body-length-2.ensures ∙ sym (drop-drop (body_length known) start job) ∙ sym (ap (λ (r : Reading). r.rest) r);
+      rest = ap (λ n. drop (start + n) job) c.body_length-2.ensures ∙ sym (drop-drop (body_length known) start job) ∙ sym (ap (λ (r : Reading). r.rest) r);
       forward = omega arith;
-      within = omega (arith, c.if-job-start.false, c.body-length.ensures, c.body-length-2.ensures);
+      within = omega (arith, c.if-job-start.false, c.body_length.ensures, c.body_length-2.ensures);
     }

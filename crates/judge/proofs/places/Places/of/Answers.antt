@@ -11,11 +11,11 @@ loop-row-init c = none_yet c.args.card.now _ (length-replicate {A = ℕ} 64 0)
 pub bounds-usable-count : goal.bounds-usable-count
 bounds-usable-count c = omega (arith, few c.args.card.now c.loop-row.row c.loop-row.usable c.loop-row.count c.loop-row.invariant)
 
-pub offset-bounds-usable-count : goal.offset-bounds-usable-count
-offset-bounds-usable-count c = omega (arith, few c.args.card.now c.loop-row.row c.loop-row.usable c.loop-row.count c.loop-row.invariant)
+pub offset_bounds-usable-count : goal.offset_bounds-usable-count
+offset_bounds-usable-count c = omega (arith, few c.args.card.now c.loop-row.row c.loop-row.usable c.loop-row.count c.loop-row.invariant)
 
-pub overflow-add-count : goal.overflow-add-count
-overflow-add-count c = omega (arith, few c.args.card.now c.loop-row.row c.loop-row.usable c.loop-row.count c.loop-row.invariant)
+pub overflow_add-count : goal.overflow_add-count
+overflow_add-count c = omega (arith, few c.args.card.now c.loop-row.row c.loop-row.usable c.loop-row.count c.loop-row.invariant)
 
 as_left : (k : CardMasks) (n : ℕ) {rows rows' : List ℕ} {count count' : ℕ} → rows ≡ rows' → count ≡ count' → Sofar k n rows' count' → Sofar k n rows count
 as_left k n {rows} {rows'} {count} {count'} e f so = subst (λ xs. Sofar k n xs count) (sym e) (subst (Sofar k n rows') (sym f) so)

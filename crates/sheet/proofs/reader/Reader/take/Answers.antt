@@ -58,11 +58,11 @@ returns-then-at-sheet c =
     let none : next r (drop r.at c.args.sheet.now) ≡ Err (NoEnd r.at) = ap (next r) (drop_all r.at c.args.sheet.now (omega arith)) in
     record { answer = sym (ap answer_of none); reader = sym (ap (reader_after r) none) }
 
-pub returns-in-err-kind : goal.returns-in-err-kind
-returns-in-err-kind c =
+pub returns-in_err-kind : goal.returns-in_err-kind
+returns-in_err-kind c =
     let r = c.args.self.now in
-    let fault = stopped r c.args.sheet.now (omega arith) c.in-err-kind.field-0.0 c.in-err-kind.ensures in
-    let p = err_from_is_err_and c.from-residual.result c.from-residual.ensures.1 in
+    let fault = stopped r c.args.sheet.now (omega arith) c.in_err-kind.field-0.0 c.in_err-kind.ensures in
+    let p = err_from_is_err_and c.from_residual.result c.from_residual.ensures.1 in
     record { answer = p.1 ∙ ap Err p.2 ∙ sym (ap answer_of fault); reader = sym (ap (reader_after r) fault) }
 
 -- the place behind a record
@@ -73,25 +73,25 @@ pub returns-then-behind-sheet : goal.returns-then-behind-sheet
 returns-then-behind-sheet c =
     let r = c.args.self.now in
     let s = c.args.sheet.now in
-    let k = c.in-ok-kind.kind in
-    let body = c.in-ok-kind.body.now in
+    let k = c.in_ok-kind.kind in
+    let body = c.in_ok-kind.body.now in
     let x = c.of-found.result in
-    let e = c.in-ok-kind.ensures in
+    let e = c.in_ok-kind.ensures in
     let fault = ends_early r s (omega arith) k body e x c.of-found.ensures (r.at + 1 + length body) (behind_is r.at (drop r.at s) k body x e c.of-found.ensures)
-    c.if-not-take.ensures.answer c.take.new.self c.if-not-take.ensures.state (sym c.if-is-end.ensures) c.if-behind-sheet.true in
+    c.if-not-take.ensures.answer c.take.new.self c.if-not-take.ensures.state (sym c.if-is_end.ensures) c.if-behind-sheet.true in
     record { answer = sym (ap answer_of fault); reader = sym (ap (reader_after r) fault) }
 
 pub returns : goal.returns
 returns c =
     let r = c.args.self.now in
     let s = c.args.sheet.now in
-    let k = c.in-ok-kind.kind in
-    let body = c.in-ok-kind.body.now in
+    let k = c.in_ok-kind.kind in
+    let body = c.in_ok-kind.body.now in
     let x = c.of-found.result in
-    let e = c.in-ok-kind.ensures in
-    let ways : (is_end x ≡ true × length s ≤ r.at + 1 + length body) ⊎ (is_end x ≡ false) = elim c.else-is-end.either [
-      | inl p ↦ inl (sym c.is-end.ensures ∙ p.0, p.1)
-      | inr p ↦ inr (sym c.is-end.ensures ∙ p)
+    let e = c.in_ok-kind.ensures in
+    let ways : (is_end x ≡ true × length s ≤ r.at + 1 + length body) ⊎ (is_end x ≡ false) = elim c.else-is_end.either [
+      | inl p ↦ inl (sym c.is_end.ensures ∙ p.0, p.1)
+      | inr p ↦ inr (sym c.is_end.ensures ∙ p)
     ] in
     let done = goes r s (omega arith) k body e x c.of-found.ensures (r.at + 1 + length body) (behind_is r.at (drop r.at s) k body x e c.of-found.ensures)
     c.if-not-take.ensures.answer c.take.new.self c.if-not-take.ensures.state ways in

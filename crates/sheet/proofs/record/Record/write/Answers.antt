@@ -17,12 +17,12 @@ listed_4 a b c ms v e = ap (λ (xs : List ℕ). a ∷ b ∷ c ∷ get_or xs 0 0 
 
 pub returns-in-Head : goal.returns-in-Head
 returns-in-Head c =
-    c.copy-from-slice.ensures.after
-    ∙ listed_8 1 c.in-Head.head.rows c.in-Head.head.columns c.to-be-bytes.result c.in-Head.head.standing (c.to-be-bytes.ensures ∙ eight c.in-Head.head.standing)
+    c.copy_from_slice.ensures.after
+    ∙ listed_8 1 c.in-Head.head.rows c.in-Head.head.columns c.to_be_bytes.result c.in-Head.head.standing (c.to_be_bytes.ensures ∙ eight c.in-Head.head.standing)
     ∙ sym (ap bytes c.in-Head.is)
 
 pub returns-in-Toll : goal.returns-in-Toll
 returns-in-Toll c =
-    c.copy-from-slice-in-Toll.ensures.after
-    ∙ listed_4 6 c.in-Toll.toll.row c.in-Toll.toll.column c.to-be-bytes-in-Toll.result c.in-Toll.toll.amount (c.to-be-bytes-in-Toll.ensures ∙ four c.in-Toll.toll.amount)
+    c.copy_from_slice-in-Toll.ensures.after
+    ∙ listed_4 6 c.in-Toll.toll.row c.in-Toll.toll.column c.to_be_bytes-in-Toll.result c.in-Toll.toll.amount (c.to_be_bytes-in-Toll.ensures ∙ four c.in-Toll.toll.amount)
     ∙ sym (ap bytes c.in-Toll.is)

@@ -46,7 +46,7 @@ returns-then-without-ne0 c =
     let rows = c.args.rows in
     let columns = c.args.columns in
     let standing = c.args.standing in
-    let fit = passed_fits rows columns c.in-ok-test.field-0 c.in-ok-test.ensures in
+    let fit = passed_fits rows columns c.in_ok-test.field-0 c.in_ok-test.ensures in
     let some = outside_is rows standing c.below.result c.without.result c.below.ensures c.without.ensures ∙ ne_eqb _ 0 c.if-without-ne0.true in
     let o = outside rows columns standing (length c.args.out.now) fit some in
     record {
@@ -63,21 +63,21 @@ ok_refusal : (o : Option Refusal) (n m : ℕ) (v w : Writer) → Ok m ≡ answer
 ok_refusal (Some y) n m v w e = let z : ◌≡◌ {A = ℕ} 0 1 = cc in absurd (omega arith)
 ok_refusal None n m v w e = refl
 
-pub returns-in-err-put : goal.returns-in-err-put
-returns-in-err-put c =
+pub returns-in_err-put : goal.returns-in_err-put
+returns-in_err-put c =
     let rows = c.args.rows in
     let columns = c.args.columns in
     let standing = c.args.standing in
     let out = c.args.out.now in
     let x = head rows columns standing in
-    let fit = passed_fits rows columns c.in-ok-test.field-0 c.in-ok-test.ensures in
+    let fit = passed_fits rows columns c.in_ok-test.field-0 c.in_ok-test.ensures in
     let inside = outside_is rows standing c.below.result c.without.result c.below.ensures c.without.ensures ∙ eq-eqb _ 0 c.if-without-ne0.false in
     let o = to_the_head rows columns standing (length out) fit inside c.if-standing-eq0.false in
-    let p = err_from_is_err_and c.from-residual-in-err-put.result c.from-residual-in-err-put.ensures.1 in
+    let p = err_from_is_err_and c.from_residual-in_err-put.result c.from_residual-in_err-put.ensures.1 in
     record {
       answer = p.1 ∙ ap Err p.2
-          ∙ sym (ap (λ (y : Option Refusal). answered y (put_done new_writer x)) o ∙ err_refusal (put_refusal new_writer x (length out)) _ _ _ c.in-err-put.ensures.answer);
-      buffer = c.in-err-put.ensures.buffer ∙ sym (ap (λ (y : Option Refusal). unless y out (laid 0 (bytes x) out)) o);
+          ∙ sym (ap (λ (y : Option Refusal). answered y (put_done new_writer x)) o ∙ err_refusal (put_refusal new_writer x (length out)) _ _ _ c.in_err-put.ensures.answer);
+      buffer = c.in_err-put.ensures.buffer ∙ sym (ap (λ (y : Option Refusal). unless y out (laid 0 (bytes x) out)) o);
     }
 
 pub returns : goal.returns
@@ -87,11 +87,11 @@ returns c =
     let standing = c.args.standing in
     let out = c.args.out.now in
     let x = head rows columns standing in
-    let fit = passed_fits rows columns c.in-ok-test.field-0 c.in-ok-test.ensures in
+    let fit = passed_fits rows columns c.in_ok-test.field-0 c.in_ok-test.ensures in
     let inside = outside_is rows standing c.below.result c.without.result c.below.ensures c.without.ensures ∙ eq-eqb _ 0 c.if-without-ne0.false in
     let o = to_the_head rows columns standing (length out) fit inside c.if-standing-eq0.false in
     record {
-      answer = ap Ok c.in-ok-put.ensures.writer ∙ ok_refusal (put_refusal new_writer x (length out)) _ _ _ _ c.in-ok-put.ensures.answer
+      answer = ap Ok c.in_ok-put.ensures.writer ∙ ok_refusal (put_refusal new_writer x (length out)) _ _ _ _ c.in_ok-put.ensures.answer
           ∙ sym (ap (λ (y : Option Refusal). answered y (put_done new_writer x)) o);
-      buffer = c.in-ok-put.ensures.buffer ∙ sym (ap (λ (y : Option Refusal). unless y out (laid 0 (bytes x) out)) o);
+      buffer = c.in_ok-put.ensures.buffer ∙ sym (ap (λ (y : Option Refusal). unless y out (laid 0 (bytes x) out)) o);
     }

@@ -1,5 +1,5 @@
 use Rattle.tariff.specs.HeatsLemmas.{no_heat_range}
 use Rattle.tariff.proofs.heat.Heat.new.Goals as goal
 
-pub invariant-of-result : goal.invariant-of-result
-invariant-of-result g c = (no_heat_range 64 64, tt)
+pub invariant_of-result : goal.invariant_of-result
+invariant_of-result g c = (no_heat_range 64 64, tt)

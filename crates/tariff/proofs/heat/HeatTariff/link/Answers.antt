@@ -2,7 +2,7 @@ use Rattle.std.proofs.Common.{arith}
 use Rattle.tariff.proofs.heat.HeatTariff.link.Goals as goal
 
 -- the sum is at most 1,000
-pub overflow-add-result : goal.overflow-add-result
-overflow-add-result g c =
+pub overflow_add-result : goal.overflow_add-result
+overflow_add-result g c =
     let law = g.met.T.Tariff.lawful c.args.self.now.below in
     omega (arith, law.link_limit c.args.row c.args.column c.args.lower c.args.to, law.ceiling_limit)
