@@ -16,7 +16,7 @@ pub fn total_charge<T: Tariff>(
     columns: u32,
 ) -> u32
     requires { (columns * rows ≤ length bytes.now) × ((columns ≤ 64) × (rows ≤ 64)) }
-    ensures { result ≡ charges (meaning tariff.now) (members (bit standing)) bytes.now rows columns }
+    ensures { result ≡ charges (T.meaning tariff.now) (members (bit standing)) bytes.now rows columns }
 {
     let mut total = 0;
     for n in 0..columns {

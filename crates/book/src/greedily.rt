@@ -11,7 +11,7 @@ use tariff::Tariff;
 
 /// Writes the columns that greedy finds to a buffer, and answers their number and total charge.
 pub fn greedy_on<T: Tariff>(host: &Host, tariff: &T, out: &mut [u8]) -> Result<(u32, u32), Refusal>
-    ensures answer { result ≡ greedy_answer host.now (meaning tariff.now) (length out.old) }
+    ensures answer { result ≡ greedy_answer host.now (T.meaning tariff.now) (length out.old) }
     ensures buffer { out.new ≡ greedy_buffer host.now out.old }
 {
     let mut rows = Rows::of(host);
@@ -31,7 +31,7 @@ impl<T: Tariff> Book<T> {
     /// Finds columns by greedy column rerouting: byte n × S + s of the buffer gets the physical column of column n in standing
     /// row s. Answers the number of columns and their total charge.
     pub fn greedy(&self, out: &mut [u8]) -> Result<(u32, u32), Refusal>
-        ensures answer { result ≡ greedy_answer self.now.host (meaning self.now.tariff) (length out.old) }
+        ensures answer { result ≡ greedy_answer self.now.host (T.meaning self.now.tariff) (length out.old) }
         ensures buffer { out.new ≡ greedy_buffer self.now.host out.old }
     {
         greedy_on(&self.host, &self.tariff, out)

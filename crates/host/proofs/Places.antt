@@ -1,19 +1,19 @@
 -- The states of places, before and after a call. Assumes nothing.
-use Rattle.std.proofs.Common.{◌≡◌, ℕ, zero, suc, ◌+◌, ◌<◌, ◌≤◌, Bool, true, false, cond, not, ◌&&◌, eqb, ltb, ◌⊎◌, List, length, get_or, set, replicate, Some, None, Decides, Option, unwrap_or, sym, refl, ap, ◌∙◌, subst, inl, inr, ⊎_elim, arith, pow_pos}
-use Rattle.std.proofs.lemmas.List.{length-set, length-replicate, get_or-replicate, get_or-set_same, get_or-set_other, set-set}
-use Rattle.std.proofs.lemmas.Bool.{both_ways, cases_Bool, cases_eq, cases_lt, ltb-true, lt-ltb, eq-eqb, ne_eqb, and_parts, and_from, not-true, not-false, not_from_false, le-ltb, and_left, and_right}
-use Rattle.masks.specs.Masks.{bit, mask, none}
+use Rattle.std.proofs.Common.{◌≡◌, ℕ, zero, suc, ◌+◌, ◌<◌, Bool, true, false, cond, ◌&&◌, eqb, ltb, ◌⊎◌, List, length, get_or, replicate, Some, None, Option, unwrap_or, sym, refl, ap, ◌∙◌, subst, inl, inr, ⊎_elim, arith, pow_pos}
+use Rattle.std.proofs.lemmas.List.{length-set, length-replicate}
+use Rattle.std.proofs.lemmas.Bool.{both_ways, ltb-true, and_parts, and_from, not-false, and_right}
+use Rattle.masks.specs.Masks.{bit, mask}
 use Rattle.masks.proofs.Bits.{bit_low}
-use Rattle.masks.proofs.Masks.{bit-mask_below, mask_empty}
+use Rattle.masks.proofs.Masks.{bit-mask_below}
 use Rattle.host.specs.declared.Host.{Host}
 use Rattle.host.specs.declared.part.Part.{Part}
 use Rattle.host.specs.declared.part.Part.TheVariants.{Pe, RowSwitch, ColumnSwitch}
 use Rattle.host.specs.declared.refusal.Refusal.{Refusal}
 use Rattle.host.specs.declared.size.Size.{Size}
 use Rattle.host.specs.Refusals.{refuse, unless}
-use Rattle.host.specs.Maps.{inside, flag, faulty, faulty_above, chosen, usable, stands}
-use Rattle.host.specs.Changes.{Change, marking, picturing, choosing, opened, crossed, refusal, set_by, after, with_part, put, put_at}
-use Rattle.host.specs.Laws.{Healthy, Usable, Stands, Place, part, choice_of, on_card, state, first_state, same, only, names, Whole, Alike}
+use Rattle.host.specs.Maps.{inside, flag, faulty}
+use Rattle.host.specs.Changes.{Change, marking, picturing, choosing, opened, crossed, refusal, set_by, after, with_part, put_at}
+use Rattle.host.specs.Laws.{Place, part, choice_of, on_card, state, first_state, same, only, names, Whole}
 use Rattle.host.proofs.Tables.{bit-put, bit_set, bit-put_at}
 
 -- a part of the card has its column below 64

@@ -1,5 +1,5 @@
 -- Calls for the same places, one after the other. Assumes nothing.
-use Rattle.std.proofs.Common.{◌≡◌, ℕ, Bool, eqb, Some, None, sym, refl, ap, ◌∙◌, subst, ⊎_elim}
+use Rattle.std.proofs.Common.{◌≡◌, Bool, eqb, None, sym, refl, ap, ◌∙◌, ⊎_elim}
 use Rattle.std.proofs.lemmas.List.{set-set}
 use Rattle.masks.specs.Masks.{mask}
 use Rattle.host.specs.declared.Host.{Host}

@@ -1,8 +1,8 @@
 -- The masks by which a map answers. Assumes nothing.
-use Rattle.std.proofs.Common.{◌≡◌, ℕ, zero, suc, ◌+◌, ◌-◌, ◌<◌, ◌≤◌, Bool, true, false, not, ◌&&◌, ◌||◌, eqb, ltb, ◌⊎◌, get_or, sym, refl, ap, ◌∙◌, ap₂, inl, inr, ⊎_elim, arith}
+use Rattle.std.proofs.Common.{◌≡◌, ℕ, ◌+◌, ◌-◌, ◌<◌, ◌≤◌, Bool, true, false, not, ◌&&◌, ◌||◌, eqb, ltb, ◌⊎◌, get_or, sym, refl, ap, ◌∙◌, ap₂, inl, inr, arith}
 use lib.Bits.{bit_or}
 use Rattle.std.proofs.lemmas.Bool.{cases_lt, lt-ltb, le-ltb, and_from, and_left, and_right}
-use Rattle.masks.specs.Masks.{bit, mask, none}
+use Rattle.masks.specs.Masks.{bit, mask}
 use Rattle.masks.proofs.Bits.{bit-bit_or}
 use Rattle.masks.proofs.Masks.{bit-mask_below, bit-mask_all, mask-same}
 use Rattle.host.specs.declared.Host.{Host}

@@ -18,7 +18,7 @@ pub fn some_column_underpriced<T: Tariff>(
     usable: &[u64; 64],
     tolls: &[[u32; 64]; 64],
 ) -> bool
-    ensures { (result ≡ true) ↔ Underpriced (masked standing usable.now) (meaning tariff.now) (toll_table tolls.now) }
+    ensures { (result ≡ true) ↔ Underpriced (masked standing usable.now) (T.meaning tariff.now) (toll_table tolls.now) }
 {
     let mut least = [WORTH; 64];
     let mut above = None;
@@ -54,7 +54,7 @@ fn row_prices<T: Tariff>(
     tolls: &[u32; 64],
 ) -> [u32; 64]
     ensures long { length result ≡ 64 }
-    ensures least { (k : ℕ) → price_row result k ≡ least_row (in_mask usable) (meaning tariff.now) (toll_row tolls.now) above (price_row least.now) row k }
+    ensures least { (k : ℕ) → price_row result k ≡ least_row (in_mask usable) (T.meaning tariff.now) (toll_row tolls.now) above (price_row least.now) row k }
 {
     let mut prices = [WORTH; 64];
     for column in 0..64u8 {
@@ -79,7 +79,7 @@ fn up_to_worth(usable: bool, price: u64) -> u32
 // The price of coming to a PE: by its entry charge, or by the cheapest link from the row above.
 fn price_to<T: Tariff>(tariff: &T, above: Option<u8>, least: &[u32; 64], row: u8, column: u8) -> u64
     requires { column < 64 }
-    ensures value { result ≡ coming_to (meaning tariff.now) above (price_row least.now) row column }
+    ensures value { result ≡ coming_to (T.meaning tariff.now) above (price_row least.now) row column }
     ensures bound { result < 2 ^ 33 }
 {
     match above {
@@ -102,7 +102,7 @@ fn price_from<T: Tariff>(
     row: u8,
     column: u8,
 ) -> u64
-    ensures value { result ≡ price_row least.now from + (meaning tariff.now).link upper from row column }
+    ensures value { result ≡ price_row least.now from + (T.meaning tariff.now).link upper from row column }
     ensures bound { result < 2 ^ 33 }
 {
     let price = if from < 64 {

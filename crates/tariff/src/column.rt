@@ -9,7 +9,7 @@ use masks::has;
 
 /// The charge of the column that has its PE of each standing row, going down, in the physical column given for it.
 pub fn column_charge<T: Tariff>(tariff: &T, standing: u64, columns: &[u8]) -> u32
-    ensures { result ≡ charge (meaning tariff.now) (members (bit standing)) columns.now }
+    ensures { result ≡ charge (T.meaning tariff.now) (members (bit standing)) columns.now }
 {
     let mut sum = 0;
     let mut place = 0;
@@ -27,7 +27,7 @@ pub fn column_charge<T: Tariff>(tariff: &T, standing: u64, columns: &[u8]) -> u3
 // What the PE at one place of a column adds to its charge.
 fn added_charge<T: Tariff>(tariff: &T, above: u8, columns: &[u8], place: usize, row: u8) -> u32
     requires { place < length columns.now }
-    ensures { result ≡ next_charge (meaning tariff.now) above columns.now place row }
+    ensures { result ≡ next_charge (T.meaning tariff.now) above columns.now place row }
 {
     if place == 0 {
         tariff.entry(row, columns[0])

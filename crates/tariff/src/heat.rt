@@ -42,7 +42,7 @@ impl<T: Tariff> Heat<T> {
     // What the heat of a PE adds to a charge.
     fn added_at(&self, row: u8, column: u8) -> u32
         requires { in_grid row column ≡ true }
-        ensures { result ≡ added (T.Tariff.meaning self.now.below).ceiling (heat_at self.now.heats row column) }
+        ensures { result ≡ added (T.meaning self.now.below).ceiling (heat_at self.now.heats row column) }
     {
         let heat = self.heats[row as usize][column as usize];
         let room = 1000 - self.below.ceiling();
@@ -51,9 +51,9 @@ impl<T: Tariff> Heat<T> {
 }
 
 impl<T: Tariff> Tariff for Heat<T> {
-    ghost meaning = { λ h. heated (T.Tariff.meaning h.below) h.heats };
+    ghost meaning = { λ h. heated (T.meaning h.below) h.heats };
 
-    ghost lawful = { λ t. heated_lawful _ _ (T.Tariff.lawful t.below) t.in_range };
+    ghost lawful = { λ t. heated_lawful _ _ (T.lawful t.below) t.in_range };
 
     fn entry(&self, row: u8, column: u8) -> u32 {
         if is_in_grid(row, column) {

@@ -1,5 +1,5 @@
-use Rattle.std.proofs.Common.{◌≡◌, cond, eqb, sym, ap, ◌∙◌, arith}
-use Rattle.masks.specs.Masks.{bit, mask, mask_below}
+use Rattle.std.proofs.Common.{cond, eqb, ◌∙◌, arith}
+use Rattle.masks.specs.Masks.{bit, mask}
 use Rattle.masks.proofs.Masks.{mask-none, mask-more, mask_all}
 use Rattle.host.specs.Maps.{stands}
 use Rattle.host.proofs.Rows.{no_standing}

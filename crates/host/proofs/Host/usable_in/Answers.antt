@@ -1,4 +1,4 @@
-use Rattle.std.proofs.Common.{◌≡◌, ℕ, zero, suc, ◌-◌, ◌<◌, not, ◌&&◌, ltb, get_or, sym, refl, ap, ◌∙◌, subst, ap₂, arith, pow_pos}
+use Rattle.std.proofs.Common.{◌≡◌, ℕ, zero, suc, ◌-◌, ◌<◌, not, ◌&&◌, ltb, get_or, sym, ap, ◌∙◌, arith, pow_pos}
 use lib.Bits.{bit_or}
 use Rattle.masks.specs.Masks.{bit, mask}
 use Rattle.masks.proofs.Bits.{bit_low}
