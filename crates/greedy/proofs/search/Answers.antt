@@ -15,7 +15,7 @@ pub overflow_cast-at : goal.overflow_cast-at
 overflow_cast-at c = omega (arith, c.loop-start.invariant.few)
 
 pub overflow_mul-at : goal.overflow_mul-at
-overflow_mul-at c = omega (arith, c.loop-start.invariant.room, c.well-formed)
+overflow_mul-at c = omega (arith, c.loop-start.invariant.room, c.well_formed)
 
 pub slice_bounds-reach-end : goal.slice_bounds-reach-end
 slice_bounds-reach-end c =
