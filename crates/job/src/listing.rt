@@ -61,8 +61,7 @@ pub fn print(job: &[u8], out: &mut [u8; 65_536]) -> usize
 }
 
 /// Makes the listing for a caller in C, and answers its length or minus the number of the refusal.
-#[unsafe(no_mangle)]
-pub extern "C" fn harvest_listing(job: &[u8], out: &mut [u8]) -> i64
+pub fn harvest_listing(job: &[u8], out: &mut [u8]) -> i64
     ensures answer { result ≡ code (listed job.now (length out.old)) }
     ensures buffer { out.new ≡ written (listed job.now (length out.old)) (listing job.now) out.old }
 {
