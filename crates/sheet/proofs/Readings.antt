@@ -1,12 +1,12 @@
 -- A sheet read record by record. Assumes nothing.
-use Rattle.std.proofs.Common.{◌≡◌, ℕ, zero, suc, ◌+◌, ◌<◌, ◌≤◌, true, false, cond, List, [], ◌∷◌, ◌++◌, length, drop, Ok, Err, Result, sym, refl, ap, ◌∙◌, subst, inl, inr, arith, length-drop}
-use Rattle.std.proofs.lemmas.Bool.{cases_Bool, cond-true, cond-false}
+use Rattle.std.proofs.Common.{◌≡◌, ℕ, zero, suc, ◌<◌, true, false, cond, List, length, drop, Ok, Err, Result, refl, ap, ◌∙◌, arith, length-drop}
+use Rattle.std.proofs.lemmas.Bool.{cond-true, cond-false}
 use Rattle.sheet.specs.declared.fault.SheetFault.{SheetFault}
 use Rattle.sheet.specs.declared.reader.Reader.{Reader}
 use Rattle.sheet.specs.declared.record.Record.{Record}
 use Rattle.sheet.specs.Records.{size, is_end}
 use Rattle.sheet.specs.Readings.{next, Reading, stops, ends, then, read_on, reading_by, reading_from}
-use Rattle.sheet.proofs.Nexts.{Taken, took}
+use Rattle.sheet.proofs.Nexts.{took}
 
 -- behind a record there are fewer bytes
 pub fewer : (r : Reader) (bs : List ℕ) (x : Record) (after : Reader) → next r bs ≡ Ok (x, after) → length (drop (size x) bs) < length bs

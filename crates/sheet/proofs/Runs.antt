@@ -1,6 +1,6 @@
 -- Runs of records, written and read back. Assumes nothing.
-use Rattle.std.proofs.Common.{◌≡◌, ℕ, zero, suc, ◌+◌, ◌<◌, ◌≤◌, Bool, true, false, cond, not, ◌&&◌, ltb, List, [], ◌∷◌, ◌++◌, length, take, drop, Some, None, Ok, Err, Option, Result, sym, refl, ap, ◌∙◌, subst, ap₂, inl, inr, append_assoc, arith, length-append}
-use Rattle.std.specs.List.{flat_map, AllByRecursion as All}
+use Rattle.std.proofs.Common.{◌≡◌, ℕ, ◌+◌, ◌<◌, true, not, ◌&&◌, ltb, List, [], ◌∷◌, ◌++◌, length, take, drop, Some, None, Ok, Err, Option, Result, sym, refl, ap, ◌∙◌, subst, ap₂, inl, inr, append_assoc, arith, length-append}
+use Rattle.std.specs.List.{AllByRecursion as All}
 use Rattle.std.proofs.ByRecursion.{All-drop}
 use Rattle.std.proofs.lemmas.List.{append-nil, flat_map_more, take_at, drop_at, drop-drop}
 use Rattle.std.proofs.lemmas.Bool.{cases_Bool, cond-true, cond-false}
@@ -18,12 +18,12 @@ use Rattle.sheet.specs.declared.writer.Refusal.{Refusal}
 use Rattle.sheet.specs.declared.writer.Refusal.TheVariants.{OutOfTurn}
 use Rattle.sheet.specs.declared.writer.Writer.{Writer}
 use Rattle.sheet.specs.Records.{record_from, made, bytes, size, is_end, all_bytes}
-use Rattle.sheet.specs.Readings.{in_turn, found, next, Reading, stops, ends, then, reading_from}
+use Rattle.sheet.specs.Readings.{in_turn, found, next, stops, ends, then, reading_from}
 use Rattle.sheet.specs.Runs.{run_from, run, placed, Fits, Desk, put_on, after_puts, done_of, Wrote}
 use Rattle.sheet.specs.Turns.{turn, taken, state_after}
 use Rattle.sheet.specs.Writers.{laid, put_refusal, put_done, put_buffer, writer_after}
 use Rattle.sheet.proofs.Bodies.{length_bytes}
-use Rattle.sheet.proofs.Nexts.{Taken, took, takes}
+use Rattle.sheet.proofs.Nexts.{took, takes}
 use Rattle.sheet.proofs.Readings.{reading_stops, reading_ends, reading_goes}
 
 -- a record that is in turn

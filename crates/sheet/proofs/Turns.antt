@@ -1,5 +1,5 @@
 -- In a reading of bytes each record is in turn. Assumes nothing.
-use Rattle.std.proofs.Common.{◌≡◌, ℕ, zero, suc, ◌+◌, ◌<◌, true, false, cond, List, [], length, drop, Some, Ok, Err, Result, sym, refl, ap, ◌∙◌, subst, inl, inr, arith}
+use Rattle.std.proofs.Common.{◌≡◌, ℕ, zero, suc, ◌+◌, ◌<◌, false, List, length, drop, Some, Ok, Err, Result, sym, refl, ap, ◌∙◌, subst, inl, inr, arith}
 use Rattle.std.proofs.lemmas.Bool.{cases_Bool}
 use Rattle.sheet.specs.declared.fault.SheetFault.{SheetFault}
 use Rattle.sheet.specs.declared.reader.Reader.{Reader}
@@ -10,7 +10,7 @@ use Rattle.sheet.specs.declared.state.State.TheVariants.{Ended}
 use Rattle.sheet.specs.Records.{size, is_end}
 use Rattle.sheet.specs.Readings.{next, Reading, stops, ends, then, reading_from}
 use Rattle.sheet.specs.Turns.{turn}
-use Rattle.sheet.proofs.Nexts.{Taken, took}
+use Rattle.sheet.proofs.Nexts.{took}
 use Rattle.sheet.proofs.Readings.{fewer, reading_stops, reading_ends, reading_goes}
 use Rattle.sheet.proofs.Runs.{only_end, end_ends}
 

@@ -1,6 +1,5 @@
 -- The numbers and byte places of what is wrong with a sheet. Assumes nothing.
 use Rattle.std.specs.Prelude.{ℕ}
-use Rattle.sheet.specs.declared.fault.RecordFault.{RecordFault}
 use Rattle.sheet.specs.declared.fault.RecordFault.TheVariants.{UnknownKind, CutShort}
 use Rattle.sheet.specs.declared.fault.SheetFault.{SheetFault}
 use Rattle.sheet.specs.declared.fault.SheetFault.TheVariants.{Record, OutOfTurn, NoEnd, AfterEnd}

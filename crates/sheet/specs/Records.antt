@@ -7,7 +7,6 @@ use Rattle.sheet.specs.declared.fault.RecordFault.{RecordFault}
 use Rattle.sheet.specs.declared.fault.RecordFault.TheVariants.{UnknownKind, CutShort}
 use Rattle.sheet.specs.declared.record.Kind.{Kind}
 use Rattle.sheet.specs.declared.record.Kind.TheVariants as k
-use Rattle.sheet.specs.declared.record.Step.{Step}
 use Rattle.sheet.specs.declared.record.Step.TheVariants.{Left, Straight, Right}
 use Rattle.sheet.specs.declared.record.Record.{Record}
 use Rattle.sheet.specs.declared.record.Record.TheVariants as r

@@ -9,7 +9,7 @@ use Rattle.sheet.specs.declared.state.State.TheVariants.{Opening}
 use Rattle.sheet.specs.declared.writer.Writer.{Writer}
 use Rattle.sheet.specs.Records.{size, is_end, all_bytes}
 use Rattle.sheet.specs.Turns.{turn}
-use Rattle.sheet.specs.Readings.{Reading, stops, ends, then, reading}
+use Rattle.sheet.specs.Readings.{Reading, stops, ends, then}
 use Rattle.sheet.specs.Writers.{laid, new_writer, put_refusal, put_buffer, writer_after}
 
 -- the state after records, if each is in turn

@@ -1,5 +1,5 @@
 -- What the calls on a writer answer, and what they leave. Assumes nothing.
-use Rattle.std.specs.Prelude.{ℕ, ◌+◌, Bool, not, ◌&&◌, List, ◌++◌, length, take, drop, Some, None, Option, Result, ◌==◌, nat_lt}
+use Rattle.std.specs.Prelude.{ℕ, ◌+◌, Bool, not, ◌&&◌, List, ◌++◌, length, take, drop, None, Option, Result, ◌==◌, nat_lt}
 use Rattle.masks.specs.Masks.{bit, none}
 use Rattle.host.specs.Refusals.{refuse, answered, unless, number as card-number}
 use Rattle.host.specs.Sizes.{fits}

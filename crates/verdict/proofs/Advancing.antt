@@ -1,13 +1,13 @@
 -- What a judge has of a sheet, and the records that led there. Assumes nothing.
 use Rattle.std.proofs.Common.{◌≡◌, ℕ, ◌+◌, ◌-◌, ◌^◌, ◌<◌, ◌≤◌, Bool, true, false, cond, not, ◌&&◌, eqb, ltb, leb, ◌⊎◌, List, [], ◌∷◌, ◌++◌, map, length, get_or, Some, None, Ok, Err, Option, Result, sym, refl, ap, ◌∙◌, subst, subst₂, inl, inr, arith, pow_mono}
 use Rattle.std.specs.List.{flat_map, AllByRecursion as All}
-use Rattle.std.proofs.ByRecursion.{All-push, All-weaker}
+use Rattle.std.proofs.ByRecursion.{All-push}
 use Rattle.std.proofs.lemmas.List.{append_assoc, append-nil, flat_map_more, length_push, map_push}
 use Rattle.std.proofs.lemmas.Bool.{cases_Bool, cases_eq, cond-true, cond-false, and_parts, eqb-true, eq-eqb, ne_eqb, ltb-true, lt-ltb, le-ltb, leb-true, cases_lt, both_ways}
 use Rattle.masks.specs.Masks.{bit, how_many}
 use Rattle.masks.proofs.Bits.{bit_low}
 use Rattle.host.specs.Refusals.{refuse, answered}
-use Rattle.plans.specs.Columns.{Usable, Near, Column, standing, row}
+use Rattle.plans.specs.Columns.{Near, Column, standing, row}
 use Rattle.plans.specs.Families.{LeftOf, Pairwise}
 use Rattle.plans.specs.Least.{last}
 use Rattle.plans.specs.Tolls.{worth}
@@ -24,11 +24,11 @@ use Rattle.sheet.specs.Turns.{turn, with_left}
 use Rattle.verdict.specs.declared.fault.JudgeFault.{JudgeFault}
 use Rattle.verdict.specs.declared.fault.JudgeFault.TheVariants.{OtherCard, OutsideHost, NotUsable, NotRight, TollPlace, TollOrder, TollAmount}
 use Rattle.verdict.specs.Boards.{Board, card, Proper}
-use Rattle.verdict.specs.Judging.{Gathered, blank, may_follow, same_head, with_pe, right_of_last, pe_fault, pe_checked, stepped, step_checked, before, with_toll, tollable, payable, toll_fault, checked}
+use Rattle.verdict.specs.Judging.{Gathered, blank, may_follow, same_head, with_pe, right_of_last, pe_checked, stepped, step_checked, before, with_toll, tollable, payable, toll_fault, checked}
 use Rattle.verdict.specs.Sheets.{step_to, steps, column_records, head_of}
 use Rattle.verdict.proofs.Boards.{counted}
-use Rattle.verdict.proofs.Lists.{In, After, after_true, all_after, pairwise_push, in_passing}
-use Rattle.verdict.proofs.Placing.{RightIn, Part, part_none, part_more, part_column, part_left, left_trans, last_push}
+use Rattle.verdict.proofs.Lists.{In, after_true, all_after, pairwise_push, in_passing}
+use Rattle.verdict.proofs.Placing.{RightIn, Part, part_none, part_more, part_column, part_left, left_trans}
 use Rattle.verdict.proofs.TollLists.{Before, before_true, before_trans, Payable, Listed}
 
 -- a test that did not refuse

@@ -1,9 +1,8 @@
 -- Boards as cards. Assumes nothing.
-use Rattle.std.proofs.Common.{◌≡◌, ℕ, ◌^◌, ◌<◌, ◌≤◌, true, length, sym, ap, ◌∙◌, arith}
+use Rattle.std.proofs.Common.{◌≡◌, ℕ, ◌<◌, sym, arith}
 use Rattle.std.specs.List.{AllByRecursion as All}
 use Rattle.std.proofs.ByRecursion.{All-weaker}
 use Rattle.masks.specs.Masks.{bit, how_many}
-use Rattle.masks.specs.Members.{passing, members}
 use Rattle.masks.proofs.Members.{passing_count}
 use Rattle.plans.specs.Columns.{Usable, Within, standing}
 use Rattle.plans.specs.Families.{Pairwise}

@@ -1,37 +1,33 @@
 -- The sheet of a plan is accepted. Assumes nothing.
-use Rattle.std.proofs.Common.{◌≡◌, ℕ, zero, suc, ◌+◌, ◌-◌, ◌*◌, ◌^◌, ◌<◌, ◌≤◌, Bool, true, false, cond, not, ◌&&◌, eqb, ltb, leb, ◌⊎◌, List, [], ◌∷◌, ◌++◌, map, length, get_or, Some, None, Ok, Option, Result, sym, refl, ap, ◌∙◌, subst, ap₂, subst₂, inl, inr, arith}
+use Rattle.std.proofs.Common.{◌≡◌, ℕ, ◌+◌, ◌-◌, ◌*◌, ◌<◌, Bool, true, false, cond, not, ◌&&◌, eqb, ltb, List, [], ◌∷◌, ◌++◌, map, length, get_or, Some, None, Ok, Option, sym, refl, ap, ◌∙◌, subst, arith}
 use Rattle.std.specs.List.{flat_map, AllByRecursion as All}
 use Rattle.std.proofs.ByRecursion.{All-push}
 use Rattle.std.proofs.lemmas.List.{append_assoc, append-nil, length_push, length-append, get_or_at, get_or_append_left}
-use Rattle.std.proofs.lemmas.Bool.{cases_lt, cond-true, cond-false, and_from, eq-eqb, ne_eqb, lt-ltb, le-ltb, le-leb, not_from_true}
-use Rattle.masks.specs.Masks.{bit, how_many}
+use Rattle.std.proofs.lemmas.Bool.{cond-true, cond-false, and_from, eq-eqb, ne_eqb, lt-ltb, le-leb, not_from_true}
+use Rattle.masks.specs.Masks.{bit}
 use Rattle.host.specs.Refusals.{refuse, answered}
 use Rattle.tariff.specs.Meaning.{Meaning}
-use Rattle.plans.specs.Columns.{Card, Usable, Near, Column, standing, row}
+use Rattle.plans.specs.Columns.{Usable, Near, Column, standing, row}
 use Rattle.plans.specs.Families.{LeftOf, Pairwise, total, total_charge}
 use Rattle.plans.specs.Least.{last}
-use Rattle.plans.specs.Tolls.{Tolls, Plan, worth, tolls_on}
+use Rattle.plans.specs.Tolls.{Tolls, Plan, worth}
 use Rattle.plans.proofs.Places as Places
 use Rattle.plans.proofs.Passing.{passing_each}
 use Rattle.sheet.specs.declared.record.Record.{Record}
 use Rattle.sheet.specs.declared.record.Record.TheVariants as r
-use Rattle.sheet.specs.declared.record.Step.{Step}
-use Rattle.sheet.specs.declared.record.Step.TheVariants.{Left, Straight, Right}
 use Rattle.sheet.specs.declared.record.Toll.{Toll}
-use Rattle.sheet.specs.declared.state.State.{State}
 use Rattle.sheet.specs.declared.state.State.TheVariants as s
-use Rattle.sheet.specs.Records.{size, is_end, all_bytes}
+use Rattle.sheet.specs.Records.{size, is_end}
 use Rattle.sheet.specs.Readings.{new_reader, reading, then, ends}
-use Rattle.sheet.specs.Runs.{run_from, run, placed, Fits}
-use Rattle.sheet.specs.Turns.{turn, with_left}
-use Rattle.sheet.proofs.Runs.{reads_from, run_append}
+use Rattle.sheet.specs.Runs.{placed}
+use Rattle.sheet.proofs.Runs.{reads_from}
 use Rattle.verdict.specs.declared.fault.JudgeFault.{JudgeFault}
 use Rattle.verdict.specs.declared.fault.JudgeFault.TheVariants.{WrongSum}
 use Rattle.verdict.specs.Boards.{Board, card, Proper}
-use Rattle.verdict.specs.Judging.{Gathered, blank, may_follow, same_head, with_pe, right_of_last, pe_fault, pe_checked, stepped, step_checked, before, with_toll, tollable, payable, toll_fault, checked, onward, gathered, toll_of, some_below_worth, adds_up, Accepted, verdict_fault, settled, judged}
-use Rattle.verdict.specs.Sheets.{step_to, steps, column_records, head_of, records, toll_list, sheet_records, sheet_of}
+use Rattle.verdict.specs.Judging.{Gathered, blank, may_follow, same_head, with_pe, right_of_last, pe_checked, step_checked, before, with_toll, tollable, payable, toll_fault, checked, onward, gathered, toll_of, adds_up, settled, judged}
+use Rattle.verdict.specs.Sheets.{step_to, steps, column_records, head_of, records, toll_list, sheet_of}
 use Rattle.verdict.specs.Theorems.{LeftToRight}
-use Rattle.verdict.proofs.Boards.{ascending, counted, narrow, within}
+use Rattle.verdict.proofs.Boards.{ascending, narrow, within}
 use Rattle.verdict.proofs.Lists.{In, After, true_after, after_all, all_in, pairwise_before}
 use Rattle.verdict.proofs.Placing.{RightIn, column_right, last_at, last_push}
 use Rattle.verdict.proofs.TollLists.{Before, true_before, Payable, Listed, list_listed, list_at, down_sum, supports_same}

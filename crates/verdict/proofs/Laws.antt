@@ -1,5 +1,5 @@
 -- The laws of sheets and plans. Assumes nothing.
-use Rattle.std.proofs.Common.{◌≡◌, ℕ, ◌<◌, ◌⊎◌, List, [], ◌∷◌, get_or, Ok, sym, refl, ap, ◌∙◌, subst, inl, inr, arith}
+use Rattle.std.proofs.Common.{◌≡◌, ℕ, ◌<◌, ◌⊎◌, List, [], ◌∷◌, get_or, Ok, sym, ap, ◌∙◌, subst, inl, inr, arith}
 use Rattle.std.specs.List.{AllByRecursion as All}
 use Rattle.plans.specs.Families.{Best, LeftOf, Pairwise}
 use Rattle.plans.specs.Tolls.{Plan}
@@ -9,7 +9,7 @@ use Rattle.sheet.specs.declared.state.State.TheVariants.{Opening, Ended}
 use Rattle.sheet.specs.Readings.{new_reader}
 use Rattle.sheet.proofs.Runs.{reads_from, placed-same}
 use Rattle.verdict.specs.Boards.{card}
-use Rattle.verdict.specs.Judging.{Accepted, judged, toll_of}
+use Rattle.verdict.specs.Judging.{judged, toll_of}
 use Rattle.verdict.specs.Sheets.{toll_list, records, sheet_of}
 use Rattle.verdict.specs.Theorems.{LeftToRight, ByFirst, AcceptedIsPlan, AcceptedAgain, AcceptedBest, SheetsOfBest, PlanIsRun}
 use Rattle.verdict.proofs.Boards.{ascending, narrow, within}

@@ -1,11 +1,10 @@
 -- The records of columns and tolls: they are in turn, their numbers fit, and they tell the columns. Assumes nothing.
-use Rattle.std.proofs.Common.{◌≡◌, ℕ, zero, suc, ◌+◌, ◌-◌, ◌*◌, ◌^◌, ◌<◌, ◌≤◌, Bool, true, false, cond, eqb, ltb, ◌⊎◌, List, [], ◌∷◌, ◌++◌, map, length, Some, None, Option, sym, refl, ap, ◌∙◌, subst, ap₂, inl, inr, arith}
+use Rattle.std.proofs.Common.{◌≡◌, ℕ, ◌+◌, ◌-◌, ◌<◌, cond, eqb, ltb, List, [], ◌∷◌, ◌++◌, map, length, Some, None, Option, sym, refl, ap, ◌∙◌, subst, ap₂, inl, inr, arith}
 use Rattle.std.specs.List.{flat_map, AllByRecursion as All}
 use Rattle.std.proofs.ByRecursion.{All-append}
 use Rattle.std.proofs.lemmas.List.{append_assoc}
 use Rattle.std.proofs.lemmas.Bool.{cases_lt, cond-true, cond-false, ne_eqb, lt-ltb, le-ltb}
-use Rattle.masks.specs.Masks.{bit, how_many}
-use Rattle.plans.specs.Columns.{Card, Usable, Near, Column, ColumnAlong, GoesOn, standing}
+use Rattle.plans.specs.Columns.{Card, Near, Column, ColumnAlong, GoesOn, standing}
 use Rattle.plans.proofs.Places as Places
 use Rattle.sheet.specs.declared.record.Record.{Record}
 use Rattle.sheet.specs.declared.record.Record.TheVariants as r
@@ -19,7 +18,7 @@ use Rattle.sheet.specs.Turns.{turn, with_left}
 use Rattle.sheet.proofs.Runs.{run_append}
 use Rattle.verdict.specs.Boards.{Board, card, Proper}
 use Rattle.verdict.specs.Judging.{stepped}
-use Rattle.verdict.specs.Sheets.{step_to, steps, column_records, head_of, records}
+use Rattle.verdict.specs.Sheets.{step_to, steps, column_records, records}
 use Rattle.verdict.proofs.Boards.{counted, low_rows, narrow}
 use Rattle.verdict.proofs.Lists.{all_in}
 use Rattle.verdict.proofs.TollLists.{Payable}

@@ -1,16 +1,10 @@
 -- An accepted sheet is the sheet of a plan. Assumes nothing.
-use Rattle.std.proofs.Common.{◌≡◌, ℕ, ◌+◌, ◌*◌, ◌<◌, ◌≤◌, Bool, true, false, cond, not, eqb, ltb, ◌⊎◌, List, [], ◌∷◌, ◌++◌, map, length, Some, None, Ok, Err, Decides, Option, Result, sym, refl, ap, ◌∙◌, subst, ap₂, inl, inr, arith}
-use Rattle.std.specs.List.{flat_map, AllByRecursion as All}
-use Rattle.std.proofs.lemmas.List.{append_assoc, append-nil}
-use Rattle.std.proofs.lemmas.Bool.{cond-true, cond-false, eqb-true, lt-ltb, both_ways}
-use Rattle.host.specs.Refusals.{refuse, answered}
-use Rattle.masks.specs.Masks.{none}
+use Rattle.std.proofs.Common.{◌≡◌, ℕ, ◌+◌, ◌*◌, true, false, List, [], ◌∷◌, ◌++◌, length, Some, None, Ok, Err, Option, Result, sym, refl, ap, ◌∙◌, subst, ap₂, inl, arith}
+use Rattle.std.proofs.lemmas.List.{append_assoc}
+use Rattle.std.proofs.lemmas.Bool.{cond-false, eqb-true}
 use Rattle.tariff.specs.Meaning.{Meaning}
-use Rattle.plans.specs.Columns.{Card, Within}
-use Rattle.plans.specs.Families.{Family, Pairwise, LeftOf, Apart, Crosses, total, total_charge}
-use Rattle.plans.specs.Least.{least}
-use Rattle.plans.specs.Tolls.{Tolls, Plan, Supports, Underpriced, worth, tolls_on}
-use Rattle.plans.proofs.Leasts as Leasts
+use Rattle.plans.specs.Families.{LeftOf, Apart, Crosses, total, total_charge}
+use Rattle.plans.specs.Tolls.{Plan, worth, tolls_on}
 use Rattle.plans.proofs.Places.{pairwise_weaker, sides_uncrossed}
 use Rattle.sheet.specs.declared.record.Record.{Record}
 use Rattle.sheet.specs.declared.record.Record.TheVariants as r
@@ -20,16 +14,15 @@ use Rattle.sheet.specs.declared.state.State.TheVariants.{Opening, Ended}
 use Rattle.sheet.specs.Records.{size, is_end, all_bytes}
 use Rattle.sheet.specs.Readings.{Reading, stops, ends, then, new_reader, reading}
 use Rattle.sheet.specs.Runs.{run_from, run, placed}
-use Rattle.sheet.specs.Turns.{turn}
 use Rattle.sheet.proofs.Runs.{lost_from}
 use Rattle.sheet.proofs.Turns.{InTurn, turns}
 use Rattle.verdict.specs.declared.fault.JudgeFault.{JudgeFault}
-use Rattle.verdict.specs.declared.fault.JudgeFault.TheVariants.{Sheet, WrongSum}
+use Rattle.verdict.specs.declared.fault.JudgeFault.TheVariants.{WrongSum}
 use Rattle.verdict.specs.declared.fault.JudgeFault.TheVariants.{Underpriced as TooCheap}
 use Rattle.verdict.specs.Boards.{Board, card, Proper}
-use Rattle.verdict.specs.Judging.{Gathered, blank, checked, onward, gathered, toll_of, some_below_worth, adds_up, Accepted, verdict_fault, settled, judged}
-use Rattle.verdict.specs.Sheets.{column_records, toll_list, records, sheet_of}
-use Rattle.verdict.specs.Theorems.{Bytes, LeftToRight, SheetOfPlan}
+use Rattle.verdict.specs.Judging.{Gathered, blank, checked, onward, gathered, toll_of, some_below_worth, adds_up, Accepted, settled, judged}
+use Rattle.verdict.specs.Sheets.{toll_list, records, sheet_of}
+use Rattle.verdict.specs.Theorems.{Bytes, LeftToRight}
 use Rattle.verdict.proofs.Advancing.{Valid, Linked, said, said_at, not_refused, answered-same, advance, finish}
 use Rattle.verdict.proofs.Boards.{ascending, narrow, within}
 use Rattle.verdict.proofs.Placing.{left_apart}

@@ -1,10 +1,10 @@
 -- Tolls as a list, by row, then column. Assumes nothing.
-use Rattle.std.proofs.Common.{◌≡◌, ℕ, zero, suc, ◌+◌, ◌<◌, ◌≤◌, Bool, true, false, cond, ◌&&◌, ◌||◌, eqb, ltb, ◌⊎◌, List, [], ◌∷◌, ◌++◌, length, get_or, sym, refl, ap, ◌∙◌, subst, inl, inr, arith}
-use Rattle.std.specs.List.{flat_map, AllByRecursion as All}
+use Rattle.std.proofs.Common.{◌≡◌, ℕ, zero, suc, ◌<◌, ◌≤◌, true, cond, ◌&&◌, eqb, ltb, ◌⊎◌, List, [], ◌∷◌, sym, refl, ap, ◌∙◌, subst, inl, inr, arith}
+use Rattle.std.specs.List.{AllByRecursion as All}
 use Rattle.std.proofs.ByRecursion.{All-append, All-weaker}
 use Rattle.std.proofs.lemmas.Bool.{cases_Bool, cases_eq, cond-true, cond-false, cond_both, eqb-true, eq-eqb, ltb-true, lt-ltb, ltb-false, or_cases, or_left, or_right, and_parts, and_from, both_ways}
 use Rattle.tariff.specs.Meaning.{Meaning}
-use Rattle.plans.specs.Columns.{Card, Usable, Column, standing, row}
+use Rattle.plans.specs.Columns.{Card, Usable, row}
 use Rattle.plans.specs.Families.{Pairwise, total}
 use Rattle.plans.specs.Tolls.{Tolls, Allowed, Supports, worth, sum_below, tolls_along, tolls_on}
 use Rattle.plans.proofs.Passing.{pairwise_append}

@@ -1,5 +1,5 @@
 -- The two tests of a verdict, and what they say of tolls. Assumes nothing.
-use Rattle.std.proofs.Common.{◌≡◌, ℕ, Bool, true, false, not, ltb, Ok, Option, refl, ⊎_elim, arith}
+use Rattle.std.proofs.Common.{◌≡◌, ℕ, Bool, true, false, ltb, Ok, Option, refl, ⊎_elim, arith}
 use Rattle.std.proofs.lemmas.Bool.{cases_lt, not-false, not_from_true, ltb-false, le-ltb}
 use Rattle.masks.specs.Masks.{none}
 use Rattle.masks.proofs.Masks.{mask_empty}

@@ -1,11 +1,11 @@
 -- The bytes of a sheet, and how many they are. Assumes nothing.
-use Rattle.std.proofs.Common.{◌≡◌, ℕ, zero, suc, ◌+◌, ◌*◌, ◌<◌, ◌≤◌, cond, ltb, List, [], ◌∷◌, ◌++◌, map, length, sym, refl, ap, ◌∙◌, suc-mul, mul-le-mul, arith, length-append}
+use Rattle.std.proofs.Common.{◌≡◌, ℕ, zero, suc, ◌+◌, ◌*◌, ◌<◌, ◌≤◌, cond, ltb, List, [], ◌∷◌, ◌++◌, map, length, refl, suc-mul, mul-le-mul, arith, length-append}
 use Rattle.std.specs.List.{flat_map, AllByRecursion as All}
 use Rattle.std.proofs.ByRecursion.{All-append}
 use Rattle.std.proofs.lemmas.Bool.{cond_both}
 use Rattle.plans.specs.Columns.{Card, Column, standing}
 use Rattle.plans.specs.Families.{total}
-use Rattle.plans.specs.Tolls.{Tolls, Plan}
+use Rattle.plans.specs.Tolls.{Tolls}
 use Rattle.plans.proofs.ByRows.{few_columns, few_rows}
 use Rattle.plans.proofs.Places as Places
 use Rattle.sheet.specs.declared.record.Record.{Record}
@@ -17,8 +17,8 @@ use Rattle.sheet.specs.Records.{bytes, size, all_bytes}
 use Rattle.sheet.specs.Runs.{Fits}
 use Rattle.sheet.proofs.Bodies.{length_bytes}
 use Rattle.sheet.proofs.Nexts.{bytes_under}
-use Rattle.verdict.specs.Boards.{Board, card, Proper}
-use Rattle.verdict.specs.Sheets.{step_to, steps, column_records, head_of, toll_at, tolls_across, tolls_down, toll_list, records, sheet_of}
+use Rattle.verdict.specs.Boards.{card}
+use Rattle.verdict.specs.Sheets.{step_to, steps, column_records, toll_at, tolls_across, tolls_down, toll_list, records}
 use Rattle.verdict.specs.Theorems.{Bytes, SheetsAreShort}
 use Rattle.verdict.proofs.Boards.{within}
 use Rattle.verdict.proofs.Lists.{total_append}

@@ -4,7 +4,6 @@ use Rattle.std.specs.List.{AllByRecursion as All}
 use Rattle.tariff.specs.Meaning.{Meaning, Lawful}
 use Rattle.plans.specs.Families.{Family, Best, LeftOf, Pairwise}
 use Rattle.plans.specs.Tolls.{Tolls, Plan, Allowed, Supports}
-use Rattle.sheet.specs.declared.record.Toll.{Toll}
 use Rattle.sheet.specs.declared.state.State.TheVariants.{Opening, Ended}
 use Rattle.sheet.specs.Runs.{run, Fits}
 use Rattle.verdict.specs.Boards.{Board, card, Proper}

@@ -1,4 +1,4 @@
-use Rattle.std.proofs.Common.{◌≡◌, ℕ, ◌+◌, [], drop, sym, refl, ap, arith}
+use Rattle.std.proofs.Common.{[], refl}
 use Rattle.sheet.specs.Readings.{new_reader}
 use Rattle.sheet.specs.Runs.{new_desk}
 use Rattle.sheet.proofs.Runs.{reads_from, lost_from, wrote_all}

@@ -1,10 +1,9 @@
-use Rattle.std.proofs.Common.{◌≡◌, ℕ, ◌+◌, ◌-◌, ◌<◌, ◌≤◌, true, false, ◌&&◌, ltb, ◌⊎◌, List, [], ◌∷◌, length, get_or, drop, Some, None, Ok, Err, Option, Result, sym, refl, ap, ◌∙◌, inl, inr, arith, length-drop}
+use Rattle.std.proofs.Common.{◌≡◌, ℕ, ◌+◌, ◌-◌, ◌<◌, ◌≤◌, true, false, ◌&&◌, ltb, ◌⊎◌, List, length, drop, Some, Ok, Err, sym, ap, ◌∙◌, inl, inr, arith, length-drop}
 use Rattle.std.proofs.lemmas.List.{drop_all, drop_more}
 use Rattle.std.proofs.lemmas.Result.{err_from_is_err_and}
 use Rattle.std.proofs.lemmas.Bool.{cond-true, cond-false, and_from, and_left, and_right, lt-ltb, le-ltb}
 use Rattle.sheet.specs.declared.fault.RecordFault.{RecordFault}
-use Rattle.sheet.specs.declared.fault.SheetFault.{SheetFault}
-use Rattle.sheet.specs.declared.fault.SheetFault.TheVariants.{Record as InRecord, OutOfTurn, NoEnd, AfterEnd}
+use Rattle.sheet.specs.declared.fault.SheetFault.TheVariants.{Record as InRecord, NoEnd, AfterEnd}
 use Rattle.sheet.specs.declared.reader.Reader.{Reader}
 use Rattle.sheet.specs.declared.record.Kind.{Kind}
 use Rattle.sheet.specs.declared.record.Record.{Record}
@@ -12,7 +11,7 @@ use Rattle.sheet.specs.declared.state.State.{State}
 use Rattle.sheet.specs.Records.{record_from, made, size, is_end}
 use Rattle.sheet.specs.Readings.{in_turn, found, next, answer_of, reader_after}
 use Rattle.sheet.specs.Turns.{turn, taken, state_after}
-use Rattle.sheet.proofs.Bodies.{Read, read, body_long, size-made}
+use Rattle.sheet.proofs.Bodies.{read, body_long, size-made}
 use Rattle.sheet.proofs.Runs.{some_taken}
 use Rattle.sheet.proofs.reader.Reader.take.Goals as goal
 

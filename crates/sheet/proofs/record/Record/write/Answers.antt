@@ -1,5 +1,4 @@
-use Rattle.std.proofs.Common.{◌≡◌, ℕ, ◌/◌, ◌%◌, List, [], ◌∷◌, get_or, sym, refl, ap, ◌∙◌, arith}
-use Rattle.sheet.specs.declared.record.Record.{Record}
+use Rattle.std.proofs.Common.{◌≡◌, ℕ, List, [], ◌∷◌, get_or, sym, ap, ◌∙◌}
 use Rattle.sheet.specs.Records.{bytes, in_bytes}
 use Rattle.sheet.proofs.Numbers.{four, eight}
 use Rattle.sheet.proofs.record.Record.write.Goals as goal

@@ -1,4 +1,4 @@
-use Rattle.std.proofs.Common.{◌≡◌, ℕ, ◌<◌, true, false, not, ◌&&◌, eqb, ltb, List, length, Some, None, Ok, Err, Option, Result, sym, refl, ap, ◌∙◌, inl, inr, arith}
+use Rattle.std.proofs.Common.{◌≡◌, ℕ, true, false, not, ◌&&◌, eqb, ltb, length, Some, None, Ok, Err, Option, Result, sym, refl, ap, ◌∙◌, inl, inr, arith}
 use Rattle.std.proofs.lemmas.Result.{err_from_is_err_and}
 use Rattle.std.proofs.lemmas.Bool.{cases_Bool, cond-true, cond-false, not_from_true, not_from_false, eq-eqb, ne_eqb}
 use Rattle.masks.specs.Masks.{bit, mask, none}
@@ -6,14 +6,14 @@ use Rattle.masks.proofs.Masks.{bit-mask_below, mask-same}
 use Rattle.host.specs.declared.refusal.Refusal.{Refusal as CardRefusal}
 use Rattle.host.specs.declared.refusal.Refusal.TheVariants.{Outside, BadSize}
 use Rattle.host.specs.declared.size.Size.{Size}
-use Rattle.host.specs.Refusals.{refuse, answered, unless}
+use Rattle.host.specs.Refusals.{answered, unless}
 use Rattle.host.specs.Sizes.{fits, tested}
 use Rattle.host.proofs.Sizes.{refused}
 use Rattle.sheet.specs.declared.writer.Refusal.{Refusal}
-use Rattle.sheet.specs.declared.writer.Refusal.TheVariants.{Card, NoRow}
+use Rattle.sheet.specs.declared.writer.Refusal.TheVariants.{Card}
 use Rattle.sheet.specs.declared.writer.Writer.{Writer}
 use Rattle.sheet.specs.Records.{bytes}
-use Rattle.sheet.specs.Writers.{laid, head, new_writer, put_refusal, put_done, put_answer, put_buffer, reaches_out, opening_refusal, opening_answer, opening_buffer, writer_after}
+use Rattle.sheet.specs.Writers.{laid, head, new_writer, put_refusal, put_done, opening_refusal}
 use Rattle.sheet.proofs.writer.Writer.open.Goals as goal
 
 -- a size that passed the test
