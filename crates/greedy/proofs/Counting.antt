@@ -1,10 +1,10 @@
 -- How many PEs of a row are untried once one more is tried. Assumes nothing.
-use Rattle.std.proofs.Common.{◌≡◌, ℕ, zero, suc, ◌+◌, ◌-◌, ◌<◌, Bool, true, false, cond, eqb, ltb, sym, ap, ◌∙◌, ⊎_elim, arith}
+use Rattle.std.proofs.Common.{◌≡◌, ℕ, zero, suc, ◌+◌, ◌<◌, Bool, true, false, cond, eqb, ltb, sym, ap, ◌∙◌, ⊎_elim, arith}
 use Rattle.std.proofs.lemmas.Bool.{cases_order, lt-ltb, le-ltb, eq-eqb, ne_eqb, cond-true, cond-false}
 use Rattle.masks.specs.Masks.{bit, how_many, how_many_below}
 use Rattle.masks.proofs.Masks.{bit-mask_below}
 use Rattle.masks.proofs.Counts.{how_many-same}
-use Rattle.greedy.specs.Search.{without, before}
+use Rattle.greedy.specs.Search.{without}
 
 -- what a test counts as
 abbrev counted : Bool → ℕ

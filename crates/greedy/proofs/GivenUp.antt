@@ -6,7 +6,7 @@ use Rattle.masks.proofs.Bits.{bit_low}
 use Rattle.plans.specs.Columns.{Near}
 use Rattle.greedy.specs.Search.{PE, Outcome, nothing, neighbour, or_else, try_leftmost, try_lower, from, reach}
 use Rattle.greedy.proofs.Rows.{Neighbour, neighbour_is, without_is}
-use Rattle.greedy.proofs.Columns.{lower, reach_is}
+use Rattle.greedy.proofs.Columns.{reach_is}
 
 module _ (j : ℕ) where
   -- the untried neighbours in the first of the rows are from column m on

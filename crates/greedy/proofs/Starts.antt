@@ -8,7 +8,7 @@ use Rattle.masks.specs.Laws.{Least}
 use Rattle.masks.proofs.Bits.{bit_low}
 use Rattle.masks.proofs.Counts.{how_many_le, least-found}
 use Rattle.plans.specs.Families.{Pairwise, LeftOf}
-use Rattle.greedy.specs.Search.{PE, Outcome, Ended, without, from, reach, before, and_then, ended, starts, usable_starts, greedy}
+use Rattle.greedy.specs.Search.{Outcome, Ended, without, from, reach, before, and_then, ended, starts, usable_starts, greedy}
 use Rattle.greedy.specs.Tries.{Tries}
 use Rattle.greedy.proofs.Rows.{off, without_is, Fewer, fewer_same, fewer_twice, Goes, goes_before, Shut, stays_right}
 use Rattle.greedy.proofs.Tries.{tries_none, tries_twice, tries_above}

@@ -1,5 +1,5 @@
 -- The PEs that a search tries: untried before, not untried after, and none of them twice. Assumes nothing.
-use Rattle.std.proofs.Common.{◌≡◌, ℕ, suc, ◌+◌, ◌<◌, true, false, eqb, ◌⊎◌, List, [], ◌∷◌, ◌++◌, length, sym, refl, ap, ◌∙◌, ap₂, inl, inr, ⊎_elim, arith}
+use Rattle.std.proofs.Common.{◌≡◌, ℕ, suc, ◌<◌, true, false, eqb, List, [], ◌∷◌, ◌++◌, length, sym, refl, ap, ◌∙◌, ap₂, inl, inr, ⊎_elim, arith}
 use Rattle.std.specs.List.{ContainsAt as Has, AllByRecursion as All}
 use Rattle.std.proofs.ByRecursion.{All-weaker, All-append, has_append_left, has_append_right}
 use Rattle.std.proofs.lemmas.Bool.{both_ways, cases_eq, eq-eqb, ne_eqb, cond-true, cond-false, false≢true}

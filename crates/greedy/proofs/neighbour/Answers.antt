@@ -1,4 +1,4 @@
-use Rattle.std.proofs.Common.{◌+◌, ◌-◌, ◌&&◌, leb, ap, ◌∙◌}
+use Rattle.std.proofs.Common.{◌+◌, ◌&&◌, leb, ap, ◌∙◌}
 use Rattle.masks.specs.Masks.{bit}
 use Rattle.masks.proofs.Masks.{bit-mask_below}
 use Rattle.masks.proofs.Counts.{least-same}
