@@ -1,5 +1,5 @@
 -- A row left out for a while. Assumes nothing.
-use Rattle.std.proofs.Common.{◌≡◌, ℕ, ◌*◌, ◌≤◌, Bool, true, false, not, ltb, Some, None, Option, Result, sym, refl, ap, ◌∙◌, ap₂, arith}
+use Rattle.std.proofs.Common.{◌≡◌, ℕ, ◌*◌, ◌≤◌, false, not, ltb, Some, None, Option, Result, sym, refl, ap, ◌∙◌, ap₂}
 use Rattle.std.proofs.lemmas.Nat.{mul-le}
 use Rattle.std.proofs.lemmas.Bool.{le-ltb, cond-false}
 use Rattle.masks.proofs.Members.{length_passing}
@@ -15,7 +15,7 @@ use Rattle.plans.specs.Columns.{standing}
 use Rattle.book.specs.declared.refusal.Refusal.{Refusal}
 use Rattle.book.specs.declared.refusal.Refusal.TheVariants.{Card, NoRow, ShortBuffer}
 use Rattle.book.specs.Rows.{card_of}
-use Rattle.book.specs.Calls.{counts, rowless, greedy_refusal, greedy_answer, left_out, trial_refusal, trial_answer}
+use Rattle.book.specs.Calls.{counts, rowless, greedy_refusal, greedy_answer, left_out, trial_answer}
 
 -- with the choice put back the map is as before
 restored : (h : Host) (rows : ℕ) (o : Option CardRefusal) → with_choice (unless o h (with_choice h rows)) h.choice ≡ h

@@ -1,5 +1,5 @@
 -- What the calls on a book answer, and what they write. Assumes nothing.
-use Rattle.std.specs.Prelude.{ℕ, ◌*◌, Bool, not, List, length, Some, None, Ok, Err, Option, Result, ◌==◌, nat_lt}
+use Rattle.std.specs.Prelude.{ℕ, ◌*◌, Bool, not, List, length, None, Ok, Err, Option, Result, ◌==◌, nat_lt}
 use Rattle.host.specs.declared.Host.{Host}
 use Rattle.host.specs.declared.refusal.Refusal.{Refusal as CardRefusal}
 use Rattle.host.specs.declared.refusal.Refusal.TheVariants.{Outside}

@@ -1,5 +1,5 @@
 -- A card as routing sees it. Assumes nothing.
-use Rattle.std.specs.Prelude.{◌≡◌, ℕ, ◌≤◌, length, take}
+use Rattle.std.specs.Prelude.{◌≡◌, ◌≤◌, length, take}
 use Rattle.masks.specs.Members.{members}
 use Rattle.host.specs.declared.Host.{Host}
 use Rattle.host.specs.Maps.{usable, stands}

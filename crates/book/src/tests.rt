@@ -62,7 +62,7 @@ fn greedy_goes_back_more_than_one_row(rt: HostRuntime) -> Result<(), Fail> {
     book.picture(3, b"XXXXX.")?;
     let mut out = [b'#'; 24];
     assert_eq!(rt; book.greedy(&mut out), Ok((1, 1)));
-    assert!(rt; &out[0..5] == [4, 4, 4, 5, b'#']);
+    assert!(rt; out[0..5] == [4, 4, 4, 5, b'#']);
     Ok(())
 }
 

@@ -1,6 +1,6 @@
 -- Text laid over a page, piece by piece. Assumes nothing.
-use Rattle.std.proofs.Common.{◌≡◌, ℕ, ◌+◌, ◌<◌, ◌≤◌, List, [], ◌∷◌, ◌++◌, length, take, drop, set, sym, refl, ap, ◌∙◌, subst, ap₂, append_assoc, add-zero, add_assoc, arith, length-set}
-use Rattle.std.proofs.lemmas.List.{take_more_set, drop-set-lt, drop_more, length_push, length-append}
+use Rattle.std.proofs.Common.{◌≡◌, ℕ, ◌+◌, ◌≤◌, List, [], ◌∷◌, ◌++◌, length, take, drop, set, sym, refl, ap, ◌∙◌, subst, ap₂, append_assoc, add-zero, arith, length-set}
+use Rattle.std.proofs.lemmas.List.{take_more_set, drop-set-lt, length-append}
 use Rattle.job.specs.Pages.{overlaid, Laid}
 
 pub laid-none : (page : List ℕ) (at : ℕ) → Laid page at [] page at

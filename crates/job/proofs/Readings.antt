@@ -1,5 +1,5 @@
 -- A job read item by item, and told line by line. Assumes nothing.
-use Rattle.std.proofs.Common.{◌≡◌, ℕ, zero, suc, ◌+◌, ◌<◌, ◌≤◌, ltb, List, [], ◌∷◌, ◌++◌, length, get_or, drop, Some, None, Option, Result, sym, refl, ap, ◌∙◌, ap₂, arith, length-drop}
+use Rattle.std.proofs.Common.{◌≡◌, ℕ, zero, suc, ◌+◌, ◌<◌, ◌≤◌, ltb, List, [], ◌∷◌, ◌++◌, length, get_or, drop, Some, None, Option, Result, sym, refl, ap, ◌∙◌, arith, length-drop}
 use Rattle.std.proofs.lemmas.List.{drop_more, drop_all}
 use Rattle.std.proofs.lemmas.Bool.{cond_both}
 use Rattle.std.specs.List.{flat_map}
@@ -10,7 +10,7 @@ use Rattle.job.specs.declared.record.Kind.{Kind}
 use Rattle.job.specs.declared.record.Record.{Record}
 use Rattle.job.specs.declared.refusal.Refusal.{Refusal}
 use Rattle.job.specs.Records.{Reading, Item, kind_of, body_length, reading, items_by, items, ReadAt}
-use Rattle.job.specs.Lines.{Outcome, outcome_of, line, lines, text, told_from}
+use Rattle.job.specs.Lines.{outcome_of, line, lines, text, told_from}
 
 -- what is left after an item is no longer than what came after its kind
 pub rest_short : (o : Option Kind) (bs : List ℕ) → length (reading o bs).rest ≤ length bs

@@ -2,7 +2,6 @@
 use Rattle.std.specs.Prelude.{◌≡◌, ℕ, List, [], ◌∷◌, ◌++◌, map, None, Ok, Err, Option}
 use Rattle.std.specs.List.{flat_map}
 use Rattle.host.specs.declared.Host.{Host}
-use Rattle.host.specs.declared.part.Part.{Part}
 use Rattle.host.specs.declared.part.Part.TheVariants.{Pe, RowSwitch, ColumnSwitch}
 use Rattle.job.specs.declared.record.Record.{Record}
 use Rattle.job.specs.declared.record.Call.TheVariants.{Mark, Choose, Greedy}

@@ -101,9 +101,9 @@ fn a_job_of_60000_bytes_is_read_and_one_more_is_not(rt: HostRuntime) {
     assert_eq!(rt; harvest_listing(&job, &mut out), -24);
     assert_eq!(rt; out[0], b'#');
     assert_eq!(rt; harvest_listing(&job[0..60_000], &mut out), 8);
-    assert!(rt; &out[0..9] == b"00 no 7\n#");
+    assert!(rt; &out[0..9] == b"00 no 7\n#".as_slice());
     assert_eq!(rt; print(&job, &mut out), 6);
-    assert!(rt; &out[0..9] == b"no 24\n7\n#");
+    assert!(rt; &out[0..9] == b"no 24\n7\n#".as_slice());
 }
 
 #[test]
@@ -112,7 +112,7 @@ fn the_program_says_when_its_buffer_is_too_short(rt: HostRuntime) {
     let job = [0x14u8; 24_579];
     let mut out = [b'#'; 65_536];
     assert_eq!(rt; print(&job[0..24_576], &mut out), 65_536);
-    assert!(rt; &out[65_528..65_536] == b"14 no 9\n");
+    assert!(rt; &out[65_528..65_536] == b"14 no 9\n".as_slice());
     assert_eq!(rt; print(&job, &mut out), 6);
-    assert!(rt; &out[0..8] == b"no 21\n9\n");
+    assert!(rt; &out[0..8] == b"no 21\n9\n".as_slice());
 }

@@ -1,5 +1,4 @@
 use Rattle.std.proofs.Common.{◌≡◌, length, Err, sym, ap, ◌∙◌, zero-add, arith}
-use Rattle.job.specs.Refusals.{listing_number}
 use Rattle.job.specs.Lines.{listing, refused}
 use Rattle.greedy.specs.Answers.{at_front}
 use Rattle.job.specs.Listings.{listed, printed, printed_as}

@@ -1,4 +1,4 @@
-use Rattle.std.proofs.Common.{◌≡◌, ℕ, ◌+◌, ◌-◌, ◌*◌, ◌≤◌, List, ◌++◌, length, drop}
+use Rattle.std.proofs.Common.{◌≡◌, ℕ, ◌-◌, ◌*◌, ◌≤◌, List, ◌++◌, length, drop}
 use Rattle.std.specs.Option.{option_map}
 use Rattle.job.specs.Lines.{map_of, told_from, listing}
 use Rattle.job.specs.Pages.{Laid}

@@ -1,8 +1,8 @@
-use Rattle.std.proofs.Common.{◌≡◌, ℕ, ◌+◌, ◌≤◌, true, false, List, set, sym, ap, ◌∙◌, subst, arith}
-use Rattle.masks.specs.Masks.{bit, mask}
+use Rattle.std.proofs.Common.{◌≡◌, ℕ, ◌+◌, List, set, sym, ap, ◌∙◌, subst, arith}
+use Rattle.masks.specs.Masks.{bit}
 use Rattle.masks.proofs.Masks.{bit-mask_below}
 use Rattle.host.specs.declared.Host.{Host}
-use Rattle.host.specs.Maps.{stands, usable}
+use Rattle.host.specs.Maps.{stands}
 use Rattle.book.proofs.Gathers.{Sofar, none_yet, few, one_more, passed_over, gathered}
 use Rattle.book.proofs.rows.Rows.of.Goals as goal
 use Rattle.book.proofs.rows.Rows.of.Goals.{then-has, else-has}
