@@ -1,7 +1,7 @@
 -- What greedy finds on a map fits its buffer. Assumes nothing.
 use Rattle.std.proofs.Common.{◌≡◌, ℕ, ◌-◌, ◌*◌, ◌<◌, ◌≤◌, true, List, [], ◌∷◌, map, length, get_or, take, drop, Some, None, sym, ap, ◌∙◌, ⊎_elim, mul-le-mul_right, arith, pow_pos}
 use Rattle.std.proofs.lemmas.List.{length-map}
-use Rattle.std.specs.List.{AllByRecursion as All}
+use Rattle.std.specs.List.{AllByRecursion}
 use Rattle.std.proofs.ByRecursion.{All-weaker}
 use Rattle.std.proofs.lemmas.Bool.{both_ways, cases_lt, ne_eqb, le-ltb, cond-false}
 use Rattle.masks.specs.Masks.{bit, mask}
@@ -44,7 +44,7 @@ pub rows_long : (h : Host) → length (usable_rows (card_of h)) ≡ standing (ca
 rows_long h = length-map (members (stands h)) (λ i. mask (usable h i))
 
 -- each column has a PE in every standing row
-columns_long : (h : Host) → 0 < standing (card_of h) → All (λ (a : List ℕ). length a ≡ standing (card_of h)) (found h)
+columns_long : (h : Host) → 0 < standing (card_of h) → AllByRecursion (λ (a : List ℕ). length a ≡ standing (card_of h)) (found h)
 columns_long h some =
     All-weaker (Column (card_of h)) (λ a. length a ≡ standing (card_of h)) (λ a is. ((column (card_of h) a).0 is).1) (found h) (family (card_of h) some).each
 

@@ -1,6 +1,6 @@
 -- The charges of columns, one after another. Assumes nothing.
 use Rattle.std.proofs.Common.{◌≡◌, ℕ, zero, suc, ◌+◌, ◌-◌, ◌*◌, ◌<◌, ◌≤◌, Bool, List, [], ◌∷◌, ◌++◌, length, take, drop, sym, refl, ap, ◌∙◌, ap₂, append_assoc, mul-le-mul_right, add-mul, one-mul, zero-mul, add-one, arith}
-use Rattle.std.specs.List.{AllByRecursion as All}
+use Rattle.std.specs.List.{AllByRecursion}
 use Rattle.std.proofs.lemmas.List.{drop-drop, take_at, drop_at}
 use Rattle.masks.specs.Members.{members}
 use Rattle.masks.proofs.Members.{length_passing}
@@ -53,7 +53,7 @@ charges_front m rows bytes size (suc n) =
     omega (arith, charges_front m rows bytes size n, ap (charge m rows) next)
 
 -- columns that lie one after another are charged as a family is
-pub charges_columns : (m : Meaning) (rows : List ℕ) (size : ℕ) (columns : List (List ℕ)) → All (λ (a : List ℕ). length a ≡ size) columns → (behind : List ℕ) →
+pub charges_columns : (m : Meaning) (rows : List ℕ) (size : ℕ) (columns : List (List ℕ)) → AllByRecursion (λ (a : List ℕ). length a ≡ size) columns → (behind : List ℕ) →
     charges m rows (one_after_another columns ++ behind) size (length columns) ≡ total (charge m rows) columns
 unfolding charges
 charges_columns m rows size [] long behind = refl

@@ -1,6 +1,6 @@
 -- Greedy on a card. Assumes nothing.
 use Rattle.std.proofs.Common.{◌≡◌, ℕ, zero, suc, ◌+◌, ◌-◌, ◌*◌, ◌<◌, Bool, true, false, ltb, List, [], ◌∷◌, ◌++◌, map, length, get_or, sym, refl, ap, ◌∙◌, inl, ⊎_elim, suc-mul, zero-mul, arith}
-use Rattle.std.specs.List.{ContainsAt as Has, AllByRecursion as All}
+use Rattle.std.specs.List.{ContainsAt as Has, AllByRecursion}
 use Rattle.std.proofs.ByRecursion.{All-weaker}
 use Rattle.std.proofs.lemmas.List.{length-map, get_or_append_left, get_or-append-add}
 use Rattle.std.proofs.lemmas.Bool.{and_parts, both_ways}
@@ -77,7 +77,7 @@ pub first_row : (c : Card) (j : ℕ) → 0 < standing c → j < 64 → Usable c 
 first_row c = first_of c.usable c.rows
 
 -- columns of S bytes each, one after another
-joined_at : (S : ℕ) (columns : List (List ℕ)) → All (λ a. length a ≡ S) columns → (n s : ℕ) → n < length columns → s < S →
+joined_at : (S : ℕ) (columns : List (List ℕ)) → AllByRecursion (λ a. length a ≡ S) columns → (n s : ℕ) → n < length columns → s < S →
     get_or (one_after_another columns) (n * S + s) 0 ≡ get_or (get_or columns n []) s 0
 joined_at S [] long n s l m = absurd (omega arith)
 joined_at S (a ∷ columns) long zero s l m =

@@ -1,6 +1,6 @@
 -- The columns of all starts, left to right. Assumes nothing.
 use Rattle.std.proofs.Common.{◌≡◌, ℕ, zero, suc, ◌<◌, ◌≤◌, Bool, true, false, cond, List, [], ◌∷◌, length, get_or, Some, None, Option, sym, refl, ap, subst, ⊎_elim, arith, pow_pos}
-use Rattle.std.specs.List.{AllByRecursion as All}
+use Rattle.std.specs.List.{AllByRecursion}
 use Rattle.std.proofs.ByRecursion.{All-weaker}
 use Rattle.std.proofs.lemmas.Bool.{both_ways, cases_Bool, cases_order}
 use Rattle.masks.specs.Masks.{bit, how_many, how_many_below, least}
@@ -29,7 +29,7 @@ begins_before (y ∷ v) (x ∷ u) (j ∷ ks) f b = (f.0 j b.0, goes_before j v u
 
 pub record Whole (u : List ℕ) (e : Ended) : Type 0 where
   pub fewer : Fewer e.untried u
-  pub each : All (Begins u) e.columns
+  pub each : AllByRecursion (Begins u) e.columns
   pub order : Pairwise LeftOf e.columns
   pub tries : Tries u e.untried e.tried
 
@@ -41,10 +41,10 @@ module _ (j row : ℕ) (rows : List ℕ) (is : Least (bit row) 64 (Some j)) (v :
   fewer_here : Fewer (without row j ∷ v) (row ∷ rows)
   fewer_here = ((λ k on. (without_is row j k on).2), fewer)
 
-  earlier : All (Begins (row ∷ rows)) e.columns
+  earlier : AllByRecursion (Begins (row ∷ rows)) e.columns
   earlier = All-weaker (Begins (without row j ∷ v)) (Begins (row ∷ rows)) (λ a. begins_before (without row j ∷ v) (row ∷ rows) a fewer_here) e.columns w.each
 
-  each_with : (found : Option (List ℕ)) → Found j rows v found → All (Begins (row ∷ rows)) (before (from j found) e.columns)
+  each_with : (found : Option (List ℕ)) → Found j rows v found → AllByRecursion (Begins (row ∷ rows)) (before (from j found) e.columns)
   each_with None c = earlier
   each_with (Some ks) c = ((is.1, c.0), earlier)
 

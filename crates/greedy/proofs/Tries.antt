@@ -1,6 +1,6 @@
 -- The PEs that a search tries: untried before, not untried after, and none of them twice. Assumes nothing.
 use Rattle.std.proofs.Common.{◌≡◌, ℕ, suc, ◌<◌, true, false, eqb, List, [], ◌∷◌, ◌++◌, length, sym, refl, ap, ◌∙◌, ap₂, inl, inr, ⊎_elim, arith}
-use Rattle.std.specs.List.{ContainsAt as Has, AllByRecursion as All}
+use Rattle.std.specs.List.{ContainsAt as Has, AllByRecursion}
 use Rattle.std.proofs.ByRecursion.{All-weaker, All-append, has_append_left, has_append_right}
 use Rattle.std.proofs.lemmas.Bool.{both_ways, cases_eq, eq-eqb, ne_eqb, cond-true, cond-false, false≢true}
 use Rattle.masks.specs.Masks.{bit}
@@ -38,7 +38,7 @@ Unlike a b = a ≡ b → ⊥
 pub tries_none : (u : List ℕ) → Tries u u []
 tries_none u = record { each = tt; once = tt; others = λ pe l on. inl on }
 
-pairwise_append : {X : Type 0} (R : X → X → Type 0) (xs ys : List X) → Pairwise R xs → Pairwise R ys → All (λ x. All (R x) ys) xs → Pairwise R (xs ++ ys)
+pairwise_append : {X : Type 0} (R : X → X → Type 0) (xs ys : List X) → Pairwise R xs → Pairwise R ys → AllByRecursion (λ x. AllByRecursion (R x) ys) xs → Pairwise R (xs ++ ys)
 pairwise_append R [] ys p q a = q
 pairwise_append R (x ∷ xs) ys p q a = (All-append (R x) xs ys p.0 a.0, pairwise_append R xs ys p.1 q a.1)
 

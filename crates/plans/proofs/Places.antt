@@ -1,6 +1,6 @@
 -- Columns by places, and pairs of columns by places and by sides. Assumes nothing.
 use Rattle.std.proofs.Common.{◌≡◌, ℕ, zero, suc, ◌+◌, ◌<◌, ◌⊎◌, List, [], ◌∷◌, length, get_or, sym, refl, ap, inl, inr, ⊎_elim, add-one, arith}
-use Rattle.std.specs.List.{AllZip, AllByRecursion as All}
+use Rattle.std.specs.List.{AllZip, AllByRecursion}
 use Rattle.std.proofs.ByRecursion.{All-weaker}
 use Rattle.std.proofs.lemmas.Bool.{cases_order}
 use Rattle.plans.specs.Columns.{Card, ColumnAlong, GoesOn, Usable, Near}
@@ -123,7 +123,7 @@ pairwise_both : {X : Type 0} (R Q : X → X → Type 0) (xs : List X) → Pairwi
 pairwise_both R Q [] p q = tt
 pairwise_both {X} R Q (x ∷ xs) p q = (all xs p.0 q.0, pairwise_both R Q xs p.1 q.1)
   where
-    all : (ys : List X) → All (R x) ys → All (Q x) ys → All (λ y. R x y × Q x y) ys
+    all : (ys : List X) → AllByRecursion (R x) ys → AllByRecursion (Q x) ys → AllByRecursion (λ y. R x y × Q x y) ys
     all [] rs qs = tt
     all (y ∷ ys) rs qs = ((rs.0, qs.0), all ys rs.1 qs.1)
 

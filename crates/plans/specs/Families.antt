@@ -1,6 +1,6 @@
 -- Families of logical columns that share no PE, and the best of them. Assumes nothing.
 use Rattle.std.specs.Prelude.{◌≡◌, ℕ, ◌+◌, ◌<◌, ◌≤◌, List, [], ◌∷◌, length, ◌≢◌, slice_index, slice_index_or}
-use Rattle.std.specs.List.{AllZip, AllByRecursion as All}
+use Rattle.std.specs.List.{AllZip, AllByRecursion}
 use Rattle.tariff.specs.Meaning.{Meaning}
 use Rattle.tariff.specs.Charges.{charge}
 use Rattle.plans.specs.Columns.{Card, Column, standing}
@@ -8,7 +8,7 @@ use Rattle.plans.specs.Columns.{Card, Column, standing}
 -- R of each element and each one after it
 abbrev pub Pairwise : {X : Type 0} → (X → X → Type 0) → List X → Type 0
 Pairwise R [] = Unit {0}
-Pairwise R (x ∷ xs) = All (R x) xs × Pairwise R xs
+Pairwise R (x ∷ xs) = AllByRecursion (R x) xs × Pairwise R xs
 
 -- the sum of f over a list
 abbrev pub total : {X : Type 0} → (X → ℕ) → List X → ℕ
@@ -39,7 +39,7 @@ Uncrossed f = Pairwise (λ a b. Crosses a b → ⊥) f
 -- a family: logical columns, no two of which share a PE; it may be empty, and there is none where no row stands
 pub record Family (c : Card) (f : List (List ℕ)) : Type 0 where
   pub stands : 0 < standing c
-  pub each : All (Column c) f
+  pub each : AllByRecursion (Column c) f
   pub apart : Pairwise Apart f
 
 -- the charges of all its columns

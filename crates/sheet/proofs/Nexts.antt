@@ -4,7 +4,7 @@ use Rattle.std.proofs.ByRecursion.{All-take}
 use Rattle.std.proofs.lemmas.List.{take-append-drop, take_all, take_at, drop_all}
 use Rattle.std.proofs.lemmas.Bool.{cases_Bool, cond-true, cond-false, and_left, and_right, le-ltb, ltb-false, eqb-true}
 use Rattle.std.specs.Int.Digits.{number_from_digits as value}
-use Rattle.std.specs.List.{AllByRecursion as All}
+use Rattle.std.specs.List.{AllByRecursion}
 use Rattle.sheet.specs.declared.fault.RecordFault.{RecordFault}
 use Rattle.sheet.specs.declared.fault.SheetFault.{SheetFault}
 use Rattle.sheet.specs.declared.fault.SheetFault.TheVariants.{Record as InRecord, AfterEnd}
@@ -46,7 +46,7 @@ code_known k.Toll = refl
 code_known k.End = refl
 
 -- a body that is read is written again as it was
-body-made : (kind : Kind) (bs : List ℕ) → length bs ≡ body_length kind → All (λ b. b < 256) bs → body (made kind bs) ≡ bs
+body-made : (kind : Kind) (bs : List ℕ) → length bs ≡ body_length kind → AllByRecursion (λ b. b < 256) bs → body (made kind bs) ≡ bs
 body-made k.Head [] l u = absurd (omega arith)
 body-made k.Head (a ∷ []) l u = absurd (omega arith)
 body-made k.Head (a ∷ b ∷ m) l u =
@@ -91,7 +91,7 @@ pub record Taken (r : Reader) (bs : List ℕ) (x : Record) (after : Reader) : Ty
   pub turned : turn r.state x ≡ Some after.state
   pub behind : after.at ≡ r.at + size x
   pub ended : is_end x ≡ true → drop (size x) bs ≡ []
-  pub wrote : All (λ b. b < 256) bs → bs ≡ bytes x ++ drop (size x) bs
+  pub wrote : AllByRecursion (λ b. b < 256) bs → bs ≡ bytes x ++ drop (size x) bs
 
 module _ (r : Reader) (bs : List ℕ) (kind : Kind) (body' : List ℕ) (is : Read bs kind body') where
   abbrev x : Record
@@ -100,12 +100,12 @@ module _ (r : Reader) (bs : List ℕ) (kind : Kind) (body' : List ℕ) (is : Rea
   long : size x ≤ length bs
   long = omega (arith, size-made kind body', is.room, ap length is.is)
 
-  bytes_back : All (λ b. b < 256) bs → bs ≡ bytes x ++ drop (size x) bs
+  bytes_back : AllByRecursion (λ b. b < 256) bs → bs ≡ bytes x ++ drop (size x) bs
   bytes_back u =
       let n = body_length kind in
       let rest = is.rest in
-      let small : All (λ b. b < 256) rest = (subst (All (λ b. b < 256)) is.is u).1 in
-      let b : body x ≡ take n rest = body-made kind body' (body_long bs kind body' is) (subst (All (λ b. b < 256)) (sym is.cut) (All-take (λ b. b < 256) n rest small)) ∙ is.cut in
+      let small : AllByRecursion (λ b. b < 256) rest = (subst (AllByRecursion (λ b. b < 256)) is.is u).1 in
+      let b : body x ≡ take n rest = body-made kind body' (body_long bs kind body' is) (subst (AllByRecursion (λ b. b < 256)) (sym is.cut) (All-take (λ b. b < 256) n rest small)) ∙ is.cut in
       let c : code (kind_in x) ≡ is.first = ap code (kind-made kind body') ∙ sym (kind-code is.first kind is.known) in
       let d : drop (size x) bs ≡ drop n rest = ap₂ (λ (m : ℕ) (ys : List ℕ). drop m ys) (size-made kind body' ∙ one-add n) is.is in
       is.is ∙ sym (ap (λ (ys : List ℕ). is.first ∷ ys) (take-append-drop n rest))
@@ -177,12 +177,12 @@ code_under k.Right = omega arith
 code_under k.Toll = omega arith
 code_under k.End = omega arith
 
-body_under : (x : Record) → Fits x → All (λ b. b < 256) (body x)
+body_under : (x : Record) → Fits x → AllByRecursion (λ b. b < 256) (body x)
 body_under (r.Head h) f = (f.0, (f.1, under_in_bytes 8 h.standing))
 body_under (r.Start j) f = (f, tt)
 body_under (r.Step d) f = tt
 body_under (r.Toll t) f = (f.0, (f.1, under_in_bytes 4 t.amount))
 body_under r.End f = tt
 
-pub bytes_under : (x : Record) → Fits x → All (λ b. b < 256) (bytes x)
+pub bytes_under : (x : Record) → Fits x → AllByRecursion (λ b. b < 256) (bytes x)
 bytes_under x f = (code_under (kind_in x), body_under x f)

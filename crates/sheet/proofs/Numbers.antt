@@ -1,7 +1,7 @@
 -- Numbers in a fixed number of bytes. Assumes nothing.
 use Rattle.std.proofs.Common.{◌≡◌, ℕ, zero, suc, ◌+◌, ◌*◌, ◌/◌, ◌%◌, ◌^◌, ◌<◌, List, [], ◌∷◌, length, refl, ap₂, pow-suc, arith}
 use Rattle.std.specs.Int.Digits.{number_from_digits as value, number_from_digits_after}
-use Rattle.std.specs.List.{AllByRecursion as All}
+use Rattle.std.specs.List.{AllByRecursion}
 use Rattle.std.proofs.lemmas.Int.Digits.{number_push, number_lt}
 use Rattle.std.proofs.ByRecursion.{All-push}
 use Rattle.std.proofs.lemmas.List.{length_push}
@@ -33,7 +33,7 @@ unfolding in_bytes
 length_in_bytes zero v = refl
 length_in_bytes (suc n) v = omega (arith, length_in_bytes n (v / 256), length_push (in_bytes n (v / 256)) (v % 256))
 
-pub under_in_bytes : (n v : ℕ) → All (λ b. b < 256) (in_bytes n v)
+pub under_in_bytes : (n v : ℕ) → AllByRecursion (λ b. b < 256) (in_bytes n v)
 unfolding in_bytes
 under_in_bytes zero v = tt
 under_in_bytes (suc n) v = All-push (λ b. b < 256) (in_bytes n (v / 256)) (v % 256) (under_in_bytes n (v / 256)) (omega arith)
@@ -44,7 +44,7 @@ value_in_bytes zero v l = omega arith
 value_in_bytes (suc n) v l =
     omega (arith, value_in_bytes n (v / 256) (omega (arith, pow-suc 256 n)), number_push 256 (in_bytes n (v / 256)) (v % 256))
 
-same_digits : (xs ys : List ℕ) (m n : ℕ) → length xs ≡ length ys → All (λ b. b < 256) xs → All (λ b. b < 256) ys →
+same_digits : (xs ys : List ℕ) (m n : ℕ) → length xs ≡ length ys → AllByRecursion (λ b. b < 256) xs → AllByRecursion (λ b. b < 256) ys →
     number_from_digits_after 256 m xs ≡ number_from_digits_after 256 n ys → (m ≡ n) × (xs ≡ ys)
 same_digits [] [] m n l u v e = (e, refl)
 same_digits [] (y ∷ ys) m n l u v e = absurd (omega arith)
@@ -54,7 +54,7 @@ same_digits (x ∷ xs) (y ∷ ys) m n l u v e =
     let same : x ≡ y = omega (arith, more.0, u.0, v.0) in
     (omega (arith, more.0, u.0, v.0), ap₂ (λ (z : ℕ) (zs : List ℕ). z ∷ zs) same more.1)
 
-pub in_bytes_value : (n : ℕ) (ds : List ℕ) → length ds ≡ n → All (λ b. b < 256) ds → in_bytes n (value 256 ds) ≡ ds
+pub in_bytes_value : (n : ℕ) (ds : List ℕ) → length ds ≡ n → AllByRecursion (λ b. b < 256) ds → in_bytes n (value 256 ds) ≡ ds
 in_bytes_value n ds e u =
     let small : value 256 ds < 256 ^ n = rw e at (number_lt 256 ds u) in
     (same_digits (in_bytes n (value 256 ds)) ds 0 0 (omega (arith, length_in_bytes n (value 256 ds))) (under_in_bytes n (value 256 ds)) u

@@ -1,6 +1,6 @@
 -- Runs of records, written and read back. Assumes nothing.
 use Rattle.std.proofs.Common.{◌≡◌, ℕ, ◌+◌, ◌<◌, true, not, ◌&&◌, ltb, List, [], ◌∷◌, ◌++◌, length, take, drop, Some, None, Ok, Err, Option, Result, sym, refl, ap, ◌∙◌, subst, ap₂, inl, inr, append_assoc, arith, length-append}
-use Rattle.std.specs.List.{AllByRecursion as All}
+use Rattle.std.specs.List.{AllByRecursion}
 use Rattle.std.proofs.ByRecursion.{All-drop}
 use Rattle.std.proofs.lemmas.List.{append-nil, flat_map_more, take_at, drop_at, drop-drop}
 use Rattle.std.proofs.lemmas.Bool.{cases_Bool, cond-true, cond-false}
@@ -78,7 +78,7 @@ none_behind a last x (y ∷ xs) e t end q =
     let z : ◌≡◌ {A = ℕ} 0 1 = cc in
     absurd (omega arith)
 
-pub reads_from : (xs : List Record) (rd : Reader) (last : State) → All Fits xs → run rd.state xs ≡ Some last → reading_from rd (all_bytes xs) ≡ placed rd.at xs
+pub reads_from : (xs : List Record) (rd : Reader) (last : State) → AllByRecursion Fits xs → run rd.state xs ≡ Some last → reading_from rd (all_bytes xs) ≡ placed rd.at xs
 reads_from [] rd last f e = reading_stops rd [] (NoEnd rd.at) refl
 reads_from (x ∷ xs) rd last f e =
     let p = run_first rd.state last x xs e in
@@ -123,7 +123,7 @@ only_end (r.Step d) e = let z : ◌≡◌ {A = ℕ} 0 1 = cc in absurd (omega ar
 only_end (r.Toll t) e = let z : ◌≡◌ {A = ℕ} 0 1 = cc in absurd (omega arith)
 only_end r.End e = refl
 
-pub lost_from : (xs : List Record) (rd : Reader) (bs : List ℕ) (last : State) → All (λ b. b < 256) bs → run rd.state xs ≡ Some last →
+pub lost_from : (xs : List Record) (rd : Reader) (bs : List ℕ) (last : State) → AllByRecursion (λ b. b < 256) bs → run rd.state xs ≡ Some last →
     reading_from rd bs ≡ placed rd.at xs → bs ≡ all_bytes xs
 lost_from [] rd [] last u e q = refl
 lost_from [] rd (b ∷ bs) last u e q = absurd (go (next rd (b ∷ bs)) refl)
@@ -146,7 +146,7 @@ lost_from [] rd (b ∷ bs) last u e q = absurd (go (next rd (b ∷ bs)) refl)
 lost_from (x ∷ xs) rd bs last u e q = go (next rd bs) refl (λ after rest. lost_from xs after rest last)
   where
     go : (o : Result (Record × Reader) SheetFault) → next rd bs ≡ o →
-        ((after : Reader) (rest : List ℕ) → All (λ b. b < 256) rest → run after.state xs ≡ Some last → reading_from after rest ≡ placed after.at xs → rest ≡ all_bytes xs) →
+        ((after : Reader) (rest : List ℕ) → AllByRecursion (λ b. b < 256) rest → run after.state xs ≡ Some last → reading_from after rest ≡ placed after.at xs → rest ≡ all_bytes xs) →
         bs ≡ bytes x ++ all_bytes xs
     go (Err f) n more = elim (cases_Bool (is_end x)) [
       | inl end ↦

@@ -1,6 +1,6 @@
 -- What a judge has of a sheet, and the records that led there. Assumes nothing.
 use Rattle.std.proofs.Common.{◌≡◌, ℕ, ◌+◌, ◌-◌, ◌^◌, ◌<◌, ◌≤◌, Bool, true, false, cond, not, ◌&&◌, eqb, ltb, leb, ◌⊎◌, List, [], ◌∷◌, ◌++◌, map, length, get_or, Some, None, Ok, Err, Option, Result, sym, refl, ap, ◌∙◌, subst, subst₂, inl, inr, arith, pow_mono}
-use Rattle.std.specs.List.{flat_map, AllByRecursion as All}
+use Rattle.std.specs.List.{flat_map, AllByRecursion}
 use Rattle.std.proofs.ByRecursion.{All-push}
 use Rattle.std.proofs.lemmas.List.{append_assoc, append-nil, flat_map_more, length_push, map_push}
 use Rattle.std.proofs.lemmas.Bool.{cases_Bool, cases_eq, cond-true, cond-false, and_parts, eqb-true, eq-eqb, ne_eqb, ltb-true, lt-ltb, le-ltb, leb-true, cases_lt, both_ways}
@@ -42,7 +42,7 @@ answered-same a a' e = cc
 
 -- what is sound in what a judge has
 pub record Valid (b : Board) (g : Gathered) : Type 0 where
-  pub each : All (Column (card b)) g.columns
+  pub each : AllByRecursion (Column (card b)) g.columns
   pub ordered : Pairwise LeftOf g.columns
   pub part : Part (card b) g.columns g.column
   pub listed : Listed (card b) g.tolls

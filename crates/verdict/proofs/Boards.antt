@@ -1,6 +1,6 @@
 -- Boards as cards. Assumes nothing.
 use Rattle.std.proofs.Common.{◌≡◌, ℕ, ◌<◌, sym, arith}
-use Rattle.std.specs.List.{AllByRecursion as All}
+use Rattle.std.specs.List.{AllByRecursion}
 use Rattle.std.proofs.ByRecursion.{All-weaker}
 use Rattle.masks.specs.Masks.{bit, how_many}
 use Rattle.masks.proofs.Members.{passing_count}
@@ -13,7 +13,7 @@ use Rattle.verdict.specs.Boards.{Board, card, Proper}
 pub ascending : (b : Board) → Pairwise ◌<◌ (card b).rows
 ascending b = passing_ascends (bit b.stand) 64
 
-pub low_rows : (b : Board) → All (λ r. r < 64) (card b).rows
+pub low_rows : (b : Board) → AllByRecursion (λ r. r < 64) (card b).rows
 low_rows b = All-weaker _ (λ r. r < 64) (λ r p. p.0) (card b).rows (passing_each (bit b.stand) 64)
 
 pub counted : (b : Board) → how_many (bit b.stand) ≡ standing (card b)

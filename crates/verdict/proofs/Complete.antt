@@ -1,6 +1,6 @@
 -- The sheet of a plan is accepted. Assumes nothing.
 use Rattle.std.proofs.Common.{◌≡◌, ℕ, ◌+◌, ◌-◌, ◌*◌, ◌<◌, Bool, true, false, cond, not, ◌&&◌, eqb, ltb, List, [], ◌∷◌, ◌++◌, map, length, get_or, Some, None, Ok, Option, sym, refl, ap, ◌∙◌, subst, arith}
-use Rattle.std.specs.List.{flat_map, AllByRecursion as All}
+use Rattle.std.specs.List.{flat_map, AllByRecursion}
 use Rattle.std.proofs.ByRecursion.{All-push}
 use Rattle.std.proofs.lemmas.List.{append_assoc, append-nil, length_push, length-append, get_or_at, get_or_append_left}
 use Rattle.std.proofs.lemmas.Bool.{cond-true, cond-false, and_from, eq-eqb, ne_eqb, lt-ltb, le-leb, not_from_true}
@@ -74,7 +74,7 @@ module _ (b : Board) where
       ∙ passes (right_of_last g j) _ _ (with_pe b g j) (true_after (λ a i. ltb (get_or a k 0) i) (RightIn k) (λ a i. lt-ltb (get_or a k 0) i) g.columns j right)
 
   -- a column
-  module _ (proper : Proper b) (done : List (List ℕ)) (a : List ℕ) (cs : All (Column (card b)) done) (w : Column (card b) a) (left : After LeftOf done a) where
+  module _ (proper : Proper b) (done : List (List ℕ)) (a : List ℕ) (cs : AllByRecursion (Column (card b)) done) (w : Column (card b) a) (left : After LeftOf done a) where
     abbrev n : ℕ
     n = standing (card b)
 
@@ -133,7 +133,7 @@ module _ (b : Board) where
         leads_append (begun []) (r.Start j ∷ []) (with' (j ∷ [])) (steps j ks) (having (done ++ a ∷ []) [])
         (leads_one (begun []) (r.Start j) (with' (j ∷ [])) refl (one_more [] j ks e)) (grows ks (j ∷ []) e (omega arith))
 
-  columns_lead : Proper b → (f done : List (List ℕ)) → All (Column (card b)) done → All (Column (card b)) f → Pairwise LeftOf (done ++ f) →
+  columns_lead : Proper b → (f done : List (List ℕ)) → AllByRecursion (Column (card b)) done → AllByRecursion (Column (card b)) f → Pairwise LeftOf (done ++ f) →
       Leads (having done []) (flat_map column_records f) (having (done ++ f) [])
   columns_lead proper [] done cs ws p =
       subst (λ (x : List (List ℕ)). Leads (having done []) [] (having x [])) (sym (append-nil done)) (leads_none (having done []))
@@ -156,7 +156,7 @@ module _ (b : Board) where
       ∙ passes (may_follow before g.tolls t) _ _ (with_toll g t) (true_after before Before true_before g.tolls t after)
       ∙ passes (payable t) _ _ (with_toll g t) (and_from _ _ (le-leb 1 t.amount p.some) (le-leb t.amount worth p.limit))
 
-  tolls_lead : Proper b → (f : List (List ℕ)) (ts ds : List Toll) → All (Payable (card b)) ts → Pairwise Before (ds ++ ts) →
+  tolls_lead : Proper b → (f : List (List ℕ)) (ts ds : List Toll) → AllByRecursion (Payable (card b)) ts → Pairwise Before (ds ++ ts) →
       Leads (having f ds) (map r.Toll ts) (having f (ds ++ ts))
   tolls_lead proper f [] ds ps q = subst (λ (x : List Toll). Leads (having f ds) [] (having f x)) (sym (append-nil ds)) (leads_none (having f ds))
   tolls_lead proper f (t ∷ ts) ds ps q =
@@ -173,7 +173,7 @@ module _ (b : Board) where
       (and_from _ _ (eq-eqb b.rows b.rows refl) (and_from _ _ (eq-eqb b.columns b.columns refl) (eq-eqb b.stand b.stand refl)))
 
   -- columns and tolls are gathered from their records
-  reaches : Proper b → (f : List (List ℕ)) (ts : List Toll) → All (Column (card b)) f → LeftToRight f → Listed (card b) ts →
+  reaches : Proper b → (f : List (List ℕ)) (ts : List Toll) → AllByRecursion (Column (card b)) f → LeftToRight f → Listed (card b) ts →
       (at : ℕ) × (gathered b blank (placed 0 (records b f ts)) ≡ Ok (having f ts, at))
   reaches proper f ts ws ordered listed =
       let head = leads_one blank (head_of b) blank refl head_passes in

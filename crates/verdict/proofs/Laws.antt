@@ -1,6 +1,6 @@
 -- The laws of sheets and plans. Assumes nothing.
 use Rattle.std.proofs.Common.{◌≡◌, ℕ, ◌<◌, ◌⊎◌, List, [], ◌∷◌, get_or, Ok, sym, ap, ◌∙◌, subst, inl, inr, arith}
-use Rattle.std.specs.List.{AllByRecursion as All}
+use Rattle.std.specs.List.{AllByRecursion}
 use Rattle.plans.specs.Families.{Best, LeftOf, Pairwise}
 use Rattle.plans.specs.Tolls.{Plan}
 use Rattle.plans.proofs.Crossings as Crossings
@@ -45,7 +45,7 @@ first_left [] (k ∷ b) l (inr x) = absurd x
 first_left (j ∷ a) [] l (inr x) = absurd x
 first_left (j ∷ a) (k ∷ b) l (inr x) = absurd (omega (arith, x.0))
 
-firsts_left : (a : List ℕ) (g : List (List ℕ)) → All (λ b. get_or a 0 0 < get_or b 0 0) g → All (λ b. LeftOf a b ⊎ LeftOf b a) g → All (LeftOf a) g
+firsts_left : (a : List ℕ) (g : List (List ℕ)) → AllByRecursion (λ b. get_or a 0 0 < get_or b 0 0) g → AllByRecursion (λ b. LeftOf a b ⊎ LeftOf b a) g → AllByRecursion (LeftOf a) g
 firsts_left a [] l x = tt
 firsts_left a (b ∷ g) l x = (first_left a b l.0 x.0, firsts_left a g l.1 x.1)
 

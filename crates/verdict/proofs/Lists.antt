@@ -1,6 +1,6 @@
 -- Lists: what is in them, their order, and what comes last. Assumes nothing.
 use Rattle.std.proofs.Common.{◌≡◌, ℕ, zero, suc, ◌+◌, ◌<◌, Bool, true, cond, ◌⊎◌, List, [], ◌∷◌, ◌++◌, length, get_or, sym, refl, ap, ◌∙◌, ap₂, inl, inr, arith}
-use Rattle.std.specs.List.{AllByRecursion as All}
+use Rattle.std.specs.List.{AllByRecursion}
 use Rattle.std.proofs.ByRecursion.{All-push}
 use Rattle.std.proofs.lemmas.Bool.{cases_eq, cond-true}
 use Rattle.masks.specs.Members.{passing}
@@ -21,12 +21,12 @@ module _ {X : Type 0} where
   in_right x [] ys i = i
   in_right x (y ∷ xs) ys i = inr (in_right x xs ys i)
 
-  pub all_in : (P : X → Type 0) (x : X) (xs : List X) → All P xs → In x xs → P x
+  pub all_in : (P : X → Type 0) (x : X) (xs : List X) → AllByRecursion P xs → In x xs → P x
   all_in P x [] all i = absurd i
   all_in P x (y ∷ xs) all (inl e) = rw e all.0
   all_in P x (y ∷ xs) all (inr i) = all_in P x xs all.1 i
 
-  pub all_from_in : (P : X → Type 0) (xs : List X) → ((x : X) → In x xs → P x) → All P xs
+  pub all_from_in : (P : X → Type 0) (xs : List X) → ((x : X) → In x xs → P x) → AllByRecursion P xs
   all_from_in P [] each = tt
   all_from_in P (x ∷ xs) each = (each x (inl refl), all_from_in P xs (λ y i. each y (inr i)))
 
@@ -72,28 +72,28 @@ module _ {X : Type 0} where
   true_after test R each (x ∷ []) y a = each x y a
   true_after test R each (x ∷ x' ∷ xs) y a = true_after test R each (x' ∷ xs) y a
 
-  pub after_all : {Y : Type 0} (R : X → Y → Type 0) (xs : List X) (y : Y) → All (λ x. R x y) xs → After R xs y
+  pub after_all : {Y : Type 0} (R : X → Y → Type 0) (xs : List X) (y : Y) → AllByRecursion (λ x. R x y) xs → After R xs y
   after_all R [] y all = tt
   after_all R (x ∷ []) y all = all.0
   after_all R (x ∷ x' ∷ xs) y all = after_all R (x' ∷ xs) y all.1
 
   -- in an order, what comes after the last comes after all
-  pub all_after : (R : X → X → Type 0) → ((x y z : X) → R x y → R y z → R x z) → (xs : List X) (y : X) → Pairwise R xs → After R xs y → All (λ x. R x y) xs
+  pub all_after : (R : X → X → Type 0) → ((x y z : X) → R x y → R y z → R x z) → (xs : List X) (y : X) → Pairwise R xs → After R xs y → AllByRecursion (λ x. R x y) xs
   all_after R trans [] y p a = tt
   all_after R trans (x ∷ []) y p a = (a, tt)
   all_after R trans (x ∷ x' ∷ xs) y p a =
       let more = all_after R trans (x' ∷ xs) y p.1 a in
       (trans x x' y p.0.0 more.0, more)
 
-  pub pairwise_push : (R : X → X → Type 0) (xs : List X) (y : X) → Pairwise R xs → All (λ x. R x y) xs → Pairwise R (xs ++ y ∷ [])
+  pub pairwise_push : (R : X → X → Type 0) (xs : List X) (y : X) → Pairwise R xs → AllByRecursion (λ x. R x y) xs → Pairwise R (xs ++ y ∷ [])
   pairwise_push R [] y p a = (tt, tt)
   pairwise_push R (x ∷ xs) y p a = (All-push (R x) xs y p.0 a.0, pairwise_push R xs y p.1 a.1)
 
-  pub pairwise_before : (R : X → X → Type 0) (xs : List X) (y : X) (ys : List X) → Pairwise R (xs ++ y ∷ ys) → All (λ x. R x y) xs
+  pub pairwise_before : (R : X → X → Type 0) (xs : List X) (y : X) (ys : List X) → Pairwise R (xs ++ y ∷ ys) → AllByRecursion (λ x. R x y) xs
   pairwise_before R [] y ys p = tt
   pairwise_before R (x ∷ xs) y ys p = (there xs p.0, pairwise_before R xs y ys p.1)
     where
-      there : (zs : List X) → All (R x) (zs ++ y ∷ ys) → R x y
+      there : (zs : List X) → AllByRecursion (R x) (zs ++ y ∷ ys) → R x y
       there [] a = a.0
       there (z ∷ zs) a = there zs a.1
 

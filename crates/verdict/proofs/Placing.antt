@@ -1,6 +1,6 @@
 -- A column that grows, PE by PE, right of the columns before it. Assumes nothing.
 use Rattle.std.proofs.Common.{◌≡◌, ℕ, ◌+◌, ◌<◌, ◌≤◌, List, [], ◌∷◌, ◌++◌, length, get_or, sym, refl, ap, ◌∙◌, subst, inl, inr, arith}
-use Rattle.std.specs.List.{AllByRecursion as All}
+use Rattle.std.specs.List.{AllByRecursion}
 use Rattle.std.proofs.lemmas.List.{get_or_append_left, get_or_push, length_push}
 use Rattle.std.proofs.lemmas.Bool.{cases_eq}
 use Rattle.plans.specs.Columns.{Card, Usable, Near, Column, standing, row}
@@ -77,7 +77,7 @@ part_column c done a p some e =
     (Places.column c a).1 (omega arith, e, λ s l. p.usable s (omega arith), λ s l. p.near s (omega arith))
 
 -- right of the last column in each row is left to right
-after_left : (c : Card) (done : List (List ℕ)) (a : List ℕ) → All (Column c) done → length a ≡ standing c →
+after_left : (c : Card) (done : List (List ℕ)) (a : List ℕ) → AllByRecursion (Column c) done → length a ≡ standing c →
     ((s : ℕ) → s < length a → After (RightIn s) done (get_or a s 0)) → After LeftOf done a
 after_left c [] a cs e right = tt
 after_left c (b ∷ []) a cs e right =
@@ -85,11 +85,11 @@ after_left c (b ∷ []) a cs e right =
     (Places.left b a len).1 (λ s l. right s (omega arith))
 after_left c (b ∷ b' ∷ done) a cs e right = after_left c (b' ∷ done) a cs.1 e right
 
-pub part_left : (c : Card) (done : List (List ℕ)) (a : List ℕ) → All (Column c) done → Part c done a → length a ≡ standing c → After LeftOf done a
+pub part_left : (c : Card) (done : List (List ℕ)) (a : List ℕ) → AllByRecursion (Column c) done → Part c done a → length a ≡ standing c → After LeftOf done a
 part_left c done a cs p e = after_left c done a cs e p.right
 
 -- and the other way round
-pub column_right : (c : Card) (done : List (List ℕ)) (a : List ℕ) → After LeftOf done a → All (Column c) done → Column c a →
+pub column_right : (c : Card) (done : List (List ℕ)) (a : List ℕ) → After LeftOf done a → AllByRecursion (Column c) done → Column c a →
     (s : ℕ) → s < standing c → After (RightIn s) done (get_or a s 0)
 column_right c [] a l cs w s k = tt
 column_right c (b ∷ []) a l cs w s k =

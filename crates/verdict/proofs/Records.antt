@@ -1,6 +1,6 @@
 -- The records of columns and tolls: they are in turn, their numbers fit, and they tell the columns. Assumes nothing.
 use Rattle.std.proofs.Common.{◌≡◌, ℕ, ◌+◌, ◌-◌, ◌<◌, cond, eqb, ltb, List, [], ◌∷◌, ◌++◌, map, length, Some, None, Option, sym, refl, ap, ◌∙◌, subst, ap₂, inl, inr, arith}
-use Rattle.std.specs.List.{flat_map, AllByRecursion as All}
+use Rattle.std.specs.List.{flat_map, AllByRecursion}
 use Rattle.std.proofs.ByRecursion.{All-append}
 use Rattle.std.proofs.lemmas.List.{append_assoc}
 use Rattle.std.proofs.lemmas.Bool.{cases_lt, cond-true, cond-false, ne_eqb, lt-ltb, le-ltb}
@@ -56,7 +56,7 @@ column_legal n (j ∷ ks) e some =
     let left : n - 1 ≡ length ks = omega arith in
     ap (λ (m : ℕ). run (with_left n m) (steps j ks)) left ∙ steps_legal n j ks
 
-columns_legal : (c : Card) (f : List (List ℕ)) → All (Column c) f → run (s.Between (standing c)) (flat_map column_records f) ≡ Some (s.Between (standing c))
+columns_legal : (c : Card) (f : List (List ℕ)) → AllByRecursion (Column c) f → run (s.Between (standing c)) (flat_map column_records f) ≡ Some (s.Between (standing c))
 columns_legal c [] ws = refl
 columns_legal c (a ∷ f) ws =
     let pl = (Places.column c a).0 ws.0 in
@@ -67,7 +67,7 @@ tolls_legal : (ts : List Toll) (a : State) → ((t : Toll) → turn a (r.Toll t)
 tolls_legal [] a takes ends = ends
 tolls_legal (t ∷ ts) a takes ends = ap (λ (o : Option State). run_from o (map r.Toll ts ++ r.End ∷ [])) (takes t) ∙ tolls_legal ts s.Tolls (λ d. refl) refl
 
-pub records_legal : (b : Board) (f : List (List ℕ)) (ts : List Toll) → All (Column (card b)) f → run s.Opening (records b f ts) ≡ Some s.Ended
+pub records_legal : (b : Board) (f : List (List ℕ)) (ts : List Toll) → AllByRecursion (Column (card b)) f → run s.Opening (records b f ts) ≡ Some s.Ended
 records_legal b f ts ws =
     let rest = map r.Toll ts ++ r.End ∷ [] in
     ap (λ (n : ℕ). run (s.Between n) (flat_map column_records f ++ rest)) (counted b)
@@ -76,27 +76,27 @@ records_legal b f ts ws =
 
 -- their numbers fit
 module _ (b : Board) (proper : Proper b) where
-  steps_fit : (j : ℕ) (ks : List ℕ) → All Fits (steps j ks)
+  steps_fit : (j : ℕ) (ks : List ℕ) → AllByRecursion Fits (steps j ks)
   steps_fit j [] = tt
   steps_fit j (k ∷ ks) = (tt, steps_fit k ks)
 
-  along_fits : (rows a : List ℕ) → ColumnAlong (card b) rows a → All Fits (column_records a)
+  along_fits : (rows a : List ℕ) → ColumnAlong (card b) rows a → AllByRecursion Fits (column_records a)
   along_fits [] a w = absurd w
   along_fits (q ∷ rows) [] w = absurd w
   along_fits (q ∷ rows) (j ∷ ks) w = (omega (arith, narrow b proper q j w.0), steps_fit j ks)
 
-  columns_fit : (f : List (List ℕ)) → All (Column (card b)) f → All Fits (flat_map column_records f)
+  columns_fit : (f : List (List ℕ)) → AllByRecursion (Column (card b)) f → AllByRecursion Fits (flat_map column_records f)
   columns_fit [] ws = tt
   columns_fit (a ∷ f) ws = All-append Fits (column_records a) (flat_map column_records f) (along_fits (card b).rows a ws.0) (columns_fit f ws.1)
 
-  tolls_fit : (ts : List Toll) → All (Payable (card b)) ts → All Fits (map r.Toll ts)
+  tolls_fit : (ts : List Toll) → AllByRecursion (Payable (card b)) ts → AllByRecursion Fits (map r.Toll ts)
   tolls_fit [] ps = tt
   tolls_fit (t ∷ ts) ps = (
     (omega (arith, all_in (λ q. q < 64) t.row (card b).rows (low_rows b) ps.0.in_row), omega (arith, narrow b proper t.row t.column ps.0.usable), omega (arith, ps.0.limit)),
     tolls_fit ts ps.1,
   )
 
-  pub records_fit : (f : List (List ℕ)) (ts : List Toll) → All (Column (card b)) f → All (Payable (card b)) ts → All Fits (records b f ts)
+  pub records_fit : (f : List (List ℕ)) (ts : List Toll) → AllByRecursion (Column (card b)) f → AllByRecursion (Payable (card b)) ts → AllByRecursion Fits (records b f ts)
   records_fit f ts ws ps = (
     (omega (arith, proper.rows_limit), omega (arith, proper.columns_limit), omega (arith, proper.mask_limit)),
     All-append Fits (flat_map column_records f) (map r.Toll ts ++ r.End ∷ []) (columns_fit f ws) (All-append Fits (map r.Toll ts) (r.End ∷ []) (tolls_fit ts ps) (tt, tt)),
@@ -143,7 +143,7 @@ begins c [] a xs w n = w
 begins c (q ∷ rows) [] xs w n = w
 begins c (q ∷ rows) (j ∷ ks) xs w n = n
 
-columns_same : (c : Card) (f g : List (List ℕ)) (xs ys : List Record) → All (Column c) f → All (Column c) g → NoStart xs → NoStart ys →
+columns_same : (c : Card) (f g : List (List ℕ)) (xs ys : List Record) → AllByRecursion (Column c) f → AllByRecursion (Column c) g → NoStart xs → NoStart ys →
     flat_map column_records f ++ xs ≡ flat_map column_records g ++ ys → f ≡ g
 columns_same c [] [] xs ys vs ws m n e = refl
 columns_same c [] (b ∷ g) xs ys vs ws m n e =
@@ -159,7 +159,7 @@ tolls_no_start : (ts : List Toll) → NoStart (map r.Toll ts ++ r.End ∷ [])
 tolls_no_start [] = tt
 tolls_no_start (t ∷ ts) = tt
 
-pub same_columns : (b : Board) (f g : List (List ℕ)) (ds ts : List Toll) → All (Column (card b)) f → All (Column (card b)) g → records b f ds ≡ records b g ts → f ≡ g
+pub same_columns : (b : Board) (f g : List (List ℕ)) (ds ts : List Toll) → AllByRecursion (Column (card b)) f → AllByRecursion (Column (card b)) g → records b f ds ≡ records b g ts → f ≡ g
 same_columns b f g ds ts vs ws e =
     let rest : flat_map column_records f ++ (map r.Toll ds ++ r.End ∷ []) ≡ flat_map column_records g ++ (map r.Toll ts ++ r.End ∷ []) = cc in
     columns_same (card b) f g (map r.Toll ds ++ r.End ∷ []) (map r.Toll ts ++ r.End ∷ []) vs ws (tolls_no_start ds) (tolls_no_start ts) rest

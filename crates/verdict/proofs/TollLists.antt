@@ -1,6 +1,6 @@
 -- Tolls as a list, by row, then column. Assumes nothing.
 use Rattle.std.proofs.Common.{◌≡◌, ℕ, zero, suc, ◌<◌, ◌≤◌, true, cond, ◌&&◌, eqb, ltb, ◌⊎◌, List, [], ◌∷◌, sym, refl, ap, ◌∙◌, subst, inl, inr, arith}
-use Rattle.std.specs.List.{AllByRecursion as All}
+use Rattle.std.specs.List.{AllByRecursion}
 use Rattle.std.proofs.ByRecursion.{All-append, All-weaker}
 use Rattle.std.proofs.lemmas.Bool.{cases_Bool, cases_eq, cond-true, cond-false, cond_both, eqb-true, eq-eqb, ltb-true, lt-ltb, ltb-false, or_cases, or_left, or_right, and_parts, and_from, both_ways}
 use Rattle.tariff.specs.Meaning.{Meaning}
@@ -57,7 +57,7 @@ module _ (toll : Tolls) where
   abbrev next : ℕ → ℕ → List Toll
   next r n = cond (ltb 0 (toll r n)) (toll_at toll r n ∷ []) []
 
-  across_given : (r n : ℕ) → All (Given toll n (r ∷ [])) (tolls_across toll r n)
+  across_given : (r n : ℕ) → AllByRecursion (Given toll n (r ∷ [])) (tolls_across toll r n)
   unfolding tolls_across
   across_given r zero = tt
   across_given r (suc n) =
@@ -65,7 +65,7 @@ module _ (toll : Tolls) where
       (All-weaker (Given toll n (r ∷ [])) (Given toll (suc n) (r ∷ []))
       (λ e g. record { in_row = g.in_row; in_column = omega (arith, g.in_column); some = g.some; is = g.is })
       (tolls_across toll r n) (across_given r n))
-      (cond_both (ltb 0 (toll r n)) (toll_at toll r n ∷ []) [] (All (Given toll (suc n) (r ∷ [])))
+      (cond_both (ltb 0 (toll r n)) (toll_at toll r n ∷ []) [] (AllByRecursion (Given toll (suc n) (r ∷ [])))
       (λ t. (record { in_row = inl refl; in_column = omega arith; some = ltb-true 0 (toll r n) t; is = refl }, tt)) (λ t. tt))
 
   across_sorted : (r n : ℕ) → Pairwise Before (tolls_across toll r n)
@@ -74,8 +74,8 @@ module _ (toll : Tolls) where
   across_sorted r (suc n) =
       pairwise_append Before (tolls_across toll r n) (next r n) (across_sorted r n)
       (cond_both (ltb 0 (toll r n)) (toll_at toll r n ∷ []) [] (Pairwise Before) (λ t. (tt, tt)) (λ t. tt))
-      (All-weaker (Given toll n (r ∷ [])) (λ d. All (Before d) (next r n))
-      (λ d g. cond_both (ltb 0 (toll r n)) (toll_at toll r n ∷ []) [] (All (Before d))
+      (All-weaker (Given toll n (r ∷ [])) (λ d. AllByRecursion (Before d) (next r n))
+      (λ d g. cond_both (ltb 0 (toll r n)) (toll_at toll r n ∷ []) [] (AllByRecursion (Before d))
       (λ t. (elim g.in_row [ inl e ↦ inr (e, g.in_column) | inr i ↦ absurd i ], tt)) (λ t. tt))
       (tolls_across toll r n) (across_given r n))
 
@@ -97,7 +97,7 @@ module _ (toll : Tolls) where
       cond_both (ltb 0 (toll r n)) (toll_at toll r n ∷ []) [] (λ es. total (λ e. e.amount) es ≡ toll r n) (λ t. omega arith) (λ t. omega (arith, ltb-false 0 (toll r n) t)) in
       omega (arith, across_sum r n, last, total_append (λ (e : Toll). e.amount) (tolls_across toll r n) (next r n))
 
-  pub down_given : (rows : List ℕ) → All (Given toll 64 rows) (tolls_down toll rows)
+  pub down_given : (rows : List ℕ) → AllByRecursion (Given toll 64 rows) (tolls_down toll rows)
   down_given [] = tt
   down_given (r ∷ rows) =
       All-append (Given toll 64 (r ∷ rows)) (tolls_across toll r 64) (tolls_down toll rows)
@@ -111,7 +111,7 @@ module _ (toll : Tolls) where
   down_sorted [] d = tt
   down_sorted (r ∷ rows) d =
       pairwise_append Before (tolls_across toll r 64) (tolls_down toll rows) (across_sorted r 64) (down_sorted rows d.1)
-      (All-weaker (Given toll 64 (r ∷ [])) (λ e. All (Before e) (tolls_down toll rows))
+      (All-weaker (Given toll 64 (r ∷ [])) (λ e. AllByRecursion (Before e) (tolls_down toll rows))
       (λ e g. All-weaker (Given toll 64 rows) (Before e)
       (λ e' g'. elim g.in_row [
         | inl x ↦ let low : r < e'.row = all_in (λ q. r < q) e'.row rows d.0 g'.in_row in inl (omega arith)
@@ -170,7 +170,7 @@ pub record Payable (c : Card) (e : Toll) : Type 0 where
 
 pub record Listed (c : Card) (es : List Toll) : Type 0 where
   pub sorted : Pairwise Before es
-  pub each : All (Payable c) es
+  pub each : AllByRecursion (Payable c) es
 
 some_or_none : (n : ℕ) → (0 < n) ⊎ (n ≡ 0)
 some_or_none zero = inr refl
@@ -249,12 +249,12 @@ module _ (c : Card) (down : Pairwise ◌<◌ c.rows) (narrow : (r j : ℕ) → U
 
 -- tolls that are the same on the standing rows
 module _ (toll toll' : Tolls) where
-  along_same : (rows a : List ℕ) → All (λ r. (j : ℕ) → toll r j ≡ toll' r j) rows → tolls_along toll rows a ≡ tolls_along toll' rows a
+  along_same : (rows a : List ℕ) → AllByRecursion (λ r. (j : ℕ) → toll r j ≡ toll' r j) rows → tolls_along toll rows a ≡ tolls_along toll' rows a
   along_same [] a same = refl
   along_same (r ∷ rows) [] same = refl
   along_same (r ∷ rows) (j ∷ a) same = omega (arith, same.0 j, along_same rows a same.1)
 
-  on_same : (rows : List ℕ) → All (λ r. (j : ℕ) → toll r j ≡ toll' r j) rows → tolls_on rows toll ≡ tolls_on rows toll'
+  on_same : (rows : List ℕ) → AllByRecursion (λ r. (j : ℕ) → toll r j ≡ toll' r j) rows → tolls_on rows toll ≡ tolls_on rows toll'
   on_same [] same = refl
   on_same (r ∷ rows) same = omega (arith, sum_below-same 64 (toll r) (toll' r) (λ j l. same.0 j), on_same rows same.1)
 

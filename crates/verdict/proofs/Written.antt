@@ -1,6 +1,6 @@
 -- The bytes of a sheet, and how many they are. Assumes nothing.
 use Rattle.std.proofs.Common.{◌≡◌, ℕ, zero, suc, ◌+◌, ◌*◌, ◌<◌, ◌≤◌, cond, ltb, List, [], ◌∷◌, ◌++◌, map, length, refl, suc-mul, mul-le-mul, arith, length-append}
-use Rattle.std.specs.List.{flat_map, AllByRecursion as All}
+use Rattle.std.specs.List.{flat_map, AllByRecursion}
 use Rattle.std.proofs.ByRecursion.{All-append}
 use Rattle.std.proofs.lemmas.Bool.{cond_both}
 use Rattle.plans.specs.Columns.{Card, Column, standing}
@@ -23,7 +23,7 @@ use Rattle.verdict.specs.Theorems.{Bytes, SheetsAreShort}
 use Rattle.verdict.proofs.Boards.{within}
 use Rattle.verdict.proofs.Lists.{total_append}
 
-pub written-bytes : (xs : List Record) → All Fits xs → Bytes (all_bytes xs)
+pub written-bytes : (xs : List Record) → AllByRecursion Fits xs → Bytes (all_bytes xs)
 written-bytes [] f = tt
 written-bytes (x ∷ xs) f = All-append (λ b. b < 256) (bytes x) (all_bytes xs) (bytes_under x f.0) (written-bytes xs f.1)
 
@@ -45,7 +45,7 @@ column_size : (a : List ℕ) → 0 < length a → total size (column_records a) 
 column_size [] some = absurd (omega arith)
 column_size (j ∷ ks) some = omega (arith, steps-size j ks)
 
-columns_size : (c : Card) (f : List (List ℕ)) → All (Column c) f → total size (flat_map column_records f) ≡ length f * (standing c + 1)
+columns_size : (c : Card) (f : List (List ℕ)) → AllByRecursion (Column c) f → total size (flat_map column_records f) ≡ length f * (standing c + 1)
 columns_size c [] ws = omega arith
 columns_size c (a ∷ f) ws =
     let pl = (Places.column c a).0 ws.0 in

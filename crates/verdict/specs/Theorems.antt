@@ -1,6 +1,6 @@
 -- The laws of sheets and plans. Assumes nothing.
 use Rattle.std.specs.Prelude.{◌≡◌, ℕ, ◌<◌, ◌≤◌, ◌↔◌, List, length, Some, Ok, slice_index}
-use Rattle.std.specs.List.{AllByRecursion as All}
+use Rattle.std.specs.List.{AllByRecursion}
 use Rattle.tariff.specs.Meaning.{Meaning, Lawful}
 use Rattle.plans.specs.Families.{Family, Best, LeftOf, Pairwise}
 use Rattle.plans.specs.Tolls.{Tolls, Plan, Allowed, Supports}
@@ -11,7 +11,7 @@ use Rattle.verdict.specs.Judging.{Accepted, judged, toll_of}
 use Rattle.verdict.specs.Sheets.{toll_list, sheet_records, sheet_of}
 
 abbrev pub Bytes : List ℕ → Type 0
-Bytes bs = All (λ b. b < 256) bs
+Bytes bs = AllByRecursion (λ b. b < 256) bs
 
 -- columns from left to right, and columns by their PEs in the first standing row
 abbrev pub LeftToRight : List (List ℕ) → Type 0
@@ -60,7 +60,7 @@ SheetsOfBest =
 abbrev pub PlanIsRun : Type 0
 PlanIsRun =
     (b : Board) (m : Meaning) (toll : Tolls) (f : List (List ℕ)) → Proper b → Plan (card b) m toll f →
-    (run Opening (sheet_records b f toll) ≡ Some Ended) × All Fits (sheet_records b f toll)
+    (run Opening (sheet_records b f toll) ≡ Some Ended) × AllByRecursion Fits (sheet_records b f toll)
 
 -- the longest sheet of a plan has 32,844 bytes
 abbrev pub SheetsAreShort : Type 0
