@@ -1,4 +1,4 @@
-/* The listing call of the column book, for C. Link with libjob.a and the kit's librattle_c.a. */
+/* The listing call of the column book, for C. Link with libjob.a and the kit's C libraries, as examples/handler.sh does. */
 #ifndef HARVEST_H
 #define HARVEST_H
 
