@@ -15,7 +15,9 @@ pub fn total_charge<T: Tariff>(
     rows: usize,
     columns: u32,
 ) -> u32
-    requires { (columns * rows ≤ length bytes.now) × ((columns ≤ 64) × (rows ≤ 64)) }
+    requires bytes { columns * rows ≤ length bytes.now }
+    requires columns { columns ≤ 64 }
+    requires rows { rows ≤ 64 }
     ensures { result ≡ charges (T.meaning tariff.now) (members (bit standing)) bytes.now rows columns }
 {
     let mut total = 0;

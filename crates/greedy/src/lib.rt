@@ -37,9 +37,10 @@ pub fn laws()
 {}
 
 /// Whether a column can be completed from the PE in this column of the first row; it is written to `path`.
-#[cycle(reach_try_leftmost_try_lower)]
+#[cycle(reaching)]
 fn reach(column: u8, untried: &mut [u64], path: &mut [u8]) -> bool
-    requires { (0 < length untried.old) × (length path.old ≡ length untried.old) }
+    requires rows { 0 < length untried.old }
+    requires path { length path.old ≡ length untried.old }
     ensures { seen result path.new untried.new ≡ told path.old (reach (length untried.old - 1) column untried.old) }
 {
     untried[0] = masks::with(untried[0], column, false);
@@ -51,9 +52,10 @@ fn reach(column: u8, untried: &mut [u64], path: &mut [u8]) -> bool
 }
 
 /// Tries the lower neighbours of a PE, left first; there are three at most.
-#[cycle(reach_try_leftmost_try_lower)]
+#[cycle(reaching)]
 fn try_lower(column: u8, untried: &mut [u64], path: &mut [u8]) -> bool
-    requires { (0 < length untried.old) × (length path.old ≡ length untried.old) }
+    requires rows { 0 < length untried.old }
+    requires path { length path.old ≡ length untried.old }
     ensures { seen result path.new untried.new ≡ told path.old (try_lower (reach (length untried.old - 1)) column untried.old) }
 {
     try_leftmost(column, untried, path)
@@ -62,9 +64,10 @@ fn try_lower(column: u8, untried: &mut [u64], path: &mut [u8]) -> bool
 }
 
 /// Reaches the leftmost untried lower neighbour, if there is one.
-#[cycle(reach_try_leftmost_try_lower)]
+#[cycle(reaching)]
 fn try_leftmost(column: u8, untried: &mut [u64], path: &mut [u8]) -> bool
-    requires { (0 < length untried.old) × (length path.old ≡ length untried.old) }
+    requires rows { 0 < length untried.old }
+    requires path { length path.old ≡ length untried.old }
     ensures { seen result path.new untried.new ≡ told path.old (try_leftmost (reach (length untried.old - 1)) column untried.old) }
 {
     match neighbour(untried[0], column) {

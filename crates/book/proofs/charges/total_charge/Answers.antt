@@ -7,7 +7,7 @@ use Rattle.book.proofs.charges.total_charge.Goals as goal
 
 pub slice_bounds-column_charge-end : goal.slice_bounds-column_charge-end
 slice_bounds-column_charge-end g c =
-    let fits = column_fits c.loop-n.n c.args.columns c.args.rows (length c.args.bytes.now) c.loop-n-test.true c.requires.0 in
+    let fits = column_fits c.loop-n.n c.args.columns c.args.rows (length c.args.bytes.now) c.loop-n-test.true c.requires.bytes in
     search rules
 
 pub loop-n-init : goal.loop-n-init
@@ -19,7 +19,7 @@ overflow_add-total g c =
     let standing = bit c.args.standing in
     let next = one_more m (members standing) c.args.bytes.now c.args.rows c.loop-n.n c.loop-n.total c.column_charge-total.result c.loop-n.invariant c.column_charge-total.ensures in
     let most = charges_limit m (g.met.T.Tariff.lawful c.args.tariff.now) standing c.args.bytes.now c.args.rows (c.loop-n.n + 1) in
-    omega (arith, next, most, c.requires.1)
+    omega (arith, next, most, c.requires.columns)
 
 pub loop-n-preserved : goal.loop-n-preserved
 loop-n-preserved g c =

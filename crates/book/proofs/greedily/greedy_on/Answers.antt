@@ -20,7 +20,7 @@ total_charge-total-requires g c =
     let h = c.args.host.now in
     let fits = enough c.of-rows.result.count (length c.args.out.now) (c.columns.ensures ∙ ap (λ (z : Size). z.columns) c.size.ensures) c.if-out-columns.false in
     let all = columns_fit h c.of-rows.result c.of-rows.ensures (length c.args.out.now) fits c.search-columns.result c.search-columns.ensures.number in
-    (omega (arith, all.0, c.search-columns.auto.out), (all.1, c.of-rows.ensures.few))
+    record { bytes = omega (arith, all.0, c.search-columns.auto.out); columns = all.1; rows = c.of-rows.ensures.few }
 
 pub returns : goal.returns
 returns g c =
