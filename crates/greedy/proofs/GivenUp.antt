@@ -21,9 +21,9 @@ module _ (j : ℕ) where
         subst (λ (o : Outcome). From (m + 1) o.untried) (sym (reach_is n i row rows))
         (λ k l near on.
         let w = without_is row i k on in
-        let at_least_lem = f i is.0 is.2 is.1 in
+        let at_least = f i is.0 is.2 is.1 in
         ⊎_elim (λ less. absurd (both_ways (bit row k) (is.3 k less near) w.2))
-        (λ more. omega (arith, at_least_lem, λ (e : k ≡ i). w.1 e)) (cases_lt k i))
+        (λ more. omega (arith, at_least, λ (e : k ≡ i). w.1 e)) (cases_lt k i))
 
   raised : (n m : ℕ) (rows : List ℕ) → From m rows → From (m + 1) (try_leftmost (reach n) j rows).untried
   raised n m [] f = λ k l near on. absurd (both_ways (bit 0 k) (bit_low 0 k (pow_pos k)) on)

@@ -1,5 +1,5 @@
 -- How calls change a map, and which are refused. Assumes nothing.
-use Rattle.std.specs.Prelude.{ℕ, Bool, true, cond, not, ◌&&◌, ◌||◌, ltb, List, [], ◌∷◌, length, replicate, None, Option, Result, ◌==◌, nat_lt, slice_index, slice_set}
+use Rattle.std.specs.Prelude.{ℕ, Bool, true, cond, not, ◌&&◌, ◌||◌, List, [], ◌∷◌, length, replicate, None, Option, Result, ◌==◌, nat_lt, slice_index, slice_set}
 use Rattle.masks.specs.Masks.{bit, mask}
 use Rattle.host.specs.declared.Host.{Host}
 use Rattle.host.specs.declared.part.Part.{Part}
@@ -12,7 +12,7 @@ use Rattle.host.specs.Maps.{inside}
 
 -- all is healthy, and every row is chosen
 abbrev pub opened : Size → Host
-opened z = record { size = z; pes = replicate 64 0; across = replicate 64 0; down = replicate 64 0; choice = mask (λ i. ltb i z.rows) }
+opened z = record { size = z; pes = replicate 64 0; across = replicate 64 0; down = replicate 64 0; choice = mask (λ i. nat_lt i z.rows) }
 
 -- what a call asks for
 pub data Change : Type 0 where

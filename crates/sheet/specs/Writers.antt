@@ -1,7 +1,7 @@
 -- What the calls on a writer answer, and what they leave. Assumes nothing.
 use Rattle.std.specs.Prelude.{ℕ, ◌+◌, Bool, not, ◌&&◌, List, ◌++◌, length, take, drop, None, Option, Result, ◌==◌, nat_lt}
 use Rattle.masks.specs.Masks.{bit, none}
-use Rattle.host.specs.Refusals.{refuse, answered, unless, number as card-number}
+use Rattle.host.specs.Refusals.{refuse, answered, unless, number as card_number}
 use Rattle.host.specs.Sizes.{fits}
 use Rattle.host.specs.declared.refusal.Refusal.TheVariants.{BadSize, Outside}
 use Rattle.sheet.specs.declared.record.Record.{Record}
@@ -14,7 +14,7 @@ use Rattle.sheet.specs.Records.{bytes, size}
 use Rattle.sheet.specs.Turns.{turn, taken, state_after}
 
 abbrev pub number : Refusal → ℕ
-number (Card x) = card-number x
+number (Card x) = card_number x
 number NoRow = 6
 number OutOfTurn = 9
 number ShortBuffer = 21

@@ -1,5 +1,5 @@
 -- The table of heats. Assumes nothing.
-use Rattle.std.specs.Prelude.{◌≡◌, ℕ, ◌+◌, ◌<◌, ◌≤◌, min, true, false, cond, List, [], length, set, replicate, slice_index, slice_index_or, slice_set, refl}
+use Rattle.std.specs.Prelude.{◌≡◌, ℕ, ◌+◌, ◌<◌, ◌≤◌, min, true, false, cond, List, [], length, replicate, slice_index, slice_index_or, slice_set, refl}
 use Rattle.std.proofs.Common.{◌∙◌, ⊎_elim, arith}
 use Rattle.std.proofs.lemmas.List.{get_or_past, get_or-set_same, get_or-set_other, set_past, length-replicate, get_or-replicate}
 use Rattle.std.proofs.lemmas.Bool.{cases_lt, cases_eq}
@@ -31,7 +31,7 @@ row_range row j x k h l =
 
 pub with_heat_range : (heats : List (List ℕ)) (r j x : ℕ) → HeatRange heats → x < 256 → HeatRange (with_heat heats r j x)
 with_heat_range heats r j x h l q k =
-    let row : List ℕ = set (slice_index_or heats r []) j x in
+    let row : List ℕ = slice_set (slice_index_or heats r []) j x in
     ⊎_elim
     (λ same. ⊎_elim
     (λ in_rows. rw same (rw (get_or-set_same heats r row [] in_rows) (row_range (slice_index_or heats r []) j x k (h r) l)))

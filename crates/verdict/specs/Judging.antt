@@ -1,5 +1,5 @@
 -- The judge of a sheet: whether it is a plan for a board, under a tariff. Assumes nothing.
-use Rattle.std.specs.Prelude.{ℕ, ◌+◌, ◌-◌, ◌*◌, Bool, true, cond, not, ◌&&◌, ◌||◌, ltb, List, [], ◌∷◌, ◌++◌, length, Some, None, Ok, Err, Option, Result, ◌==◌, nat_le, nat_lt, slice_index}
+use Rattle.std.specs.Prelude.{ℕ, ◌+◌, ◌-◌, ◌*◌, Bool, true, cond, not, ◌&&◌, ◌||◌, List, [], ◌∷◌, ◌++◌, length, Some, None, Ok, Err, Option, Result, ◌==◌, nat_le, nat_lt, slice_index}
 use Rattle.masks.specs.Masks.{bit, none}
 use Rattle.host.specs.Refusals.{refuse, answered}
 use Rattle.tariff.specs.Meaning.{Meaning}
@@ -46,7 +46,7 @@ with_pe b g j =
 
 -- it is right of the preceding column's PE in that row
 abbrev pub right_of_last : Gathered → ℕ → Bool
-right_of_last g j = may_follow (λ a k. ltb (slice_index a (length g.column)) k) g.columns j
+right_of_last g j = may_follow (λ a k. nat_lt (slice_index a (length g.column)) k) g.columns j
 
 abbrev pub pe_fault : Board → Gathered → ℕ → ℕ → Option JudgeFault
 pe_fault b g at j =
@@ -112,7 +112,7 @@ toll_of (t ∷ ts) r j = cond (t.row == r && t.column == j) t.amount (toll_of ts
 
 -- some least price of the last row is below the worth
 abbrev pub some_below_worth : Card → Meaning → Tolls → Bool
-some_below_worth c m toll = not (none (λ j. ltb (least c m toll j) worth))
+some_below_worth c m toll = not (none (λ j. nat_lt (least c m toll j) worth))
 
 -- the tolls add up to the worth × the number of columns, less the total charge
 abbrev pub adds_up : Card → Meaning → Gathered → Bool
