@@ -13,12 +13,13 @@ pub enum Refusal {
     ShortBuffer,
 }
 
-impl Refusal {
-    pub fn number(self) -> u8
-        ensures { result ≡ number self }
-    {
-        match self {
-            Refusal::Card(x) => x.number(),
+/// The number under which it is listed.
+impl From<Refusal> for u8 {
+    ghost from_gives = { λ x r. r ≡ number x };
+
+    fn from(x: Refusal) -> u8 {
+        match x {
+            Refusal::Card(y) => u8::from(y),
             Refusal::NoRow => 6,
             Refusal::ShortBuffer => 21,
         }

@@ -16,11 +16,12 @@ pub enum Refusal {
     BadCharacter,
 }
 
-impl Refusal {
-    pub fn number(self) -> u8
-        ensures { result ≡ number self }
-    {
-        match self {
+/// The number under which it is listed.
+impl From<Refusal> for u8 {
+    ghost from_gives = { λ x r. r ≡ number x };
+
+    fn from(x: Refusal) -> u8 {
+        match x {
             Refusal::BadSize => 1,
             Refusal::Outside => 2,
             Refusal::BadState => 3,

@@ -16,7 +16,7 @@ fn sides_are_1_to_64(rt: HostRuntime) {
     for (rows, columns) in [(0, 1), (1, 0), (65, 64), (64, 65), (255, 255)] {
         assert!(rt; Size::test(rows, columns).is_err());
     }
-    assert_eq!(rt; Refusal::BadSize.number(), 1);
+    assert_eq!(rt; u8::from(Refusal::BadSize), 1);
 }
 
 #[test]

@@ -56,7 +56,7 @@ pub fn print(job: &[u8], out: &mut [u8; 65_536]) -> usize
 {
     match list(job, out) {
         Ok(length) => length,
-        Err(x) => put_refused(out, 0, x.number()),
+        Err(x) => put_refused(out, 0, u8::from(x)),
     }
 }
 
@@ -67,6 +67,6 @@ pub fn harvest_listing(job: &[u8], out: &mut [u8]) -> i64
 {
     match list(job, out) {
         Ok(length) => length as i64,
-        Err(x) => -(x.number() as i64),
+        Err(x) => -i64::from(u8::from(x)),
     }
 }

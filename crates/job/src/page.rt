@@ -96,6 +96,6 @@ pub fn put_line(page: &mut [u8], at: usize, kind: u8, reply: Result<Answer, Refu
     let next = put_all(page, at, &[hex(kind / 16), hex(kind % 16), b' ']);
     match reply {
         Ok(answer) => put_answer(page, next, answer),
-        Err(x) => put_refused(page, next, x.number()),
+        Err(x) => put_refused(page, next, u8::from(x)),
     }
 }

@@ -17,13 +17,14 @@ pub enum Refusal {
     OutOfTurn,
 }
 
-impl Refusal {
-    pub fn number(self) -> u8
-        ensures { result ≡ number self }
-    {
-        match self {
-            Refusal::Size(x) => x.number(),
-            Refusal::Book(x) => x.number(),
+/// The number under which it is listed.
+impl From<Refusal> for u8 {
+    ghost from_gives = { λ x r. r ≡ number x };
+
+    fn from(x: Refusal) -> u8 {
+        match x {
+            Refusal::Size(y) => u8::from(y),
+            Refusal::Book(y) => u8::from(y),
             Refusal::UnknownKind => 7,
             Refusal::CutShort => 8,
             Refusal::OutOfTurn => 9,
@@ -55,11 +56,12 @@ pub enum ListingRefusal {
     ShortBuffer,
 }
 
-impl ListingRefusal {
-    pub fn number(self) -> u8
-        ensures { result ≡ listing_number self }
-    {
-        match self {
+/// The number under which it is listed.
+impl From<ListingRefusal> for u8 {
+    ghost from_gives = { λ x r. r ≡ listing_number x };
+
+    fn from(x: ListingRefusal) -> u8 {
+        match x {
             ListingRefusal::LongJob => 24,
             ListingRefusal::ShortBuffer => 21,
         }

@@ -105,6 +105,6 @@ fn refusals(rt: HostRuntime) {
     assert_eq!(rt; heat.set(64, 0, 1), Err(Refusal::OutsideGrid));
     assert_eq!(rt; heat.set(0, 64, 1), Err(Refusal::OutsideGrid));
     assert_eq!(rt; heat.entry(0, 0), 0);
-    assert_eq!(rt; Refusal::OutsideGrid.number(), 2);
-    assert_eq!(rt; Refusal::WireOutOfRange.number(), 23);
+    assert_eq!(rt; u8::from(Refusal::OutsideGrid), 2);
+    assert_eq!(rt; u8::from(Refusal::WireOutOfRange), 23);
 }

@@ -32,12 +32,12 @@ impl From<RecordFault> for SheetFault {
     }
 }
 
-impl SheetFault {
-    /// The number under which it is listed.
-    pub fn number(self) -> u8
-        ensures { result ≡ number self }
-    {
-        match self {
+/// The number under which it is listed.
+impl From<SheetFault> for u8 {
+    ghost from_gives = { λ x r. r ≡ number x };
+
+    fn from(x: SheetFault) -> u8 {
+        match x {
             SheetFault::Record(RecordFault::UnknownKind { at: _ }) => 7,
             SheetFault::Record(RecordFault::CutShort { at: _ }) => 8,
             SheetFault::OutOfTurn { at: _ } => 9,
@@ -45,7 +45,9 @@ impl SheetFault {
             SheetFault::AfterEnd { at: _ } => 11,
         }
     }
+}
 
+impl SheetFault {
     /// The byte at which it stands.
     pub fn place(self) -> usize
         ensures { result ≡ place self }

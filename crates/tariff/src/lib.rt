@@ -50,12 +50,12 @@ pub enum Refusal {
     WireOutOfRange,
 }
 
-impl Refusal {
-    /// The number under which it is listed.
-    pub fn number(self) -> u8
-        ensures { result ≡ number self }
-    {
-        match self {
+/// The number under which it is listed.
+impl From<Refusal> for u8 {
+    ghost from_gives = { λ x r. r ≡ number x };
+
+    fn from(x: Refusal) -> u8 {
+        match x {
             Refusal::OutsideGrid => 2,
             Refusal::WireOutOfRange => 23,
         }

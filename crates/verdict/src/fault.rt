@@ -38,13 +38,13 @@ impl From<SheetFault> for JudgeFault {
     }
 }
 
-impl JudgeFault {
-    /// The number under which it is listed.
-    pub fn number(self) -> u8
-        ensures { result ≡ number self }
-    {
-        match self {
-            JudgeFault::Sheet(x) => x.number(),
+/// The number under which it is listed.
+impl From<JudgeFault> for u8 {
+    ghost from_gives = { λ x r. r ≡ number x };
+
+    fn from(x: JudgeFault) -> u8 {
+        match x {
+            JudgeFault::Sheet(y) => u8::from(y),
             JudgeFault::OtherCard { at: _ } => 12,
             JudgeFault::OutsideHost { at: _ } => 13,
             JudgeFault::NotUsable { at: _ } => 14,
@@ -56,7 +56,9 @@ impl JudgeFault {
             JudgeFault::WrongSum { at: _ } => 20,
         }
     }
+}
 
+impl JudgeFault {
     /// The byte at which it stands.
     pub fn place(self) -> usize
         ensures { result ≡ place self }

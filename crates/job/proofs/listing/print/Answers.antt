@@ -11,7 +11,7 @@ returns-in-Err c =
     let out = c.args.out.now in
     let room : length out ≡ 65536 = omega arith in
     let why : listed job 65536 ≡ Err c.in-Err.x = ap (listed job) (sym room) ∙ sym c.list.ensures.answer ∙ c.in-Err.is in
-    let says : refused c.number.result ≡ printed job = ap refused c.number.ensures ∙ ap (λ r. printed_as r (listing job)) (sym why) in
+    let says : refused c.from.result ≡ printed job = ap refused c.from.ensures ∙ ap (λ r. printed_as r (listing job)) (sym why) in
     let laid = laid_as _ _ says c.put_refused.ensures.laid in
     let kept : c.list.new.out ≡ out = c.in-Err.ensures.buffer in
     record {

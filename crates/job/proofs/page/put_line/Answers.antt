@@ -17,7 +17,7 @@ pub returns-in-Err : goal.returns-in-Err
 returns-in-Err c =
     record {
       laid =
-          laid_as _ _ (λ t. head (c.hex.ensures t) (c.hex-2.ensures t) ++ (ap refused c.number.ensures ∙ ap said (sym c.in-Err.is)) t)
+          laid_as _ _ (λ t. head (c.hex.ensures t) (c.hex-2.ensures t) ++ (ap refused c.from.ensures ∙ ap said (sym c.in-Err.is)) t)
           (laid_then _ _ c.put_all-next.ensures c.put_refused.ensures.laid);
       short = omega (arith, c.put_all-next.ensures.behind, c.put_refused.ensures.short);
     }
