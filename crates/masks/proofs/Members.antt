@@ -1,5 +1,5 @@
 -- The numbers that pass a test, one more at a time. Assumes nothing.
-use Rattle.std.proofs.Common.{◌≡◌, ℕ, zero, suc, ◌+◌, ◌<◌, ◌≤◌, Bool, true, false, cond, eqb, Some, None, [], ◌∷◌, ◌++◌, length, sym, refl, subst, inl, inr, ap, ◌∙◌, ap₂, append-nil, add-one, arith, length-append}
+use Rattle.std.proofs.Common.{◌≡◌, ℕ, zero, suc, ◌+◌, ◌<◌, ◌≤◌, Bool, true, false, cond, eqb, Some, None, List, [], ◌∷◌, ◌++◌, length, sym, refl, subst, inl, inr, ap, ◌∙◌, ap₂, append-nil, add-one, arith, length-append}
 use Rattle.std.proofs.lemmas.Bool.{cases_eq, cond-true, cond-false, eq-eqb, ne_eqb}
 use Rattle.masks.specs.Laws.{Least}
 use Rattle.masks.proofs.Masks.{bit-mask_below}
@@ -85,3 +85,15 @@ members_first m i w e out =
     let kept : (j : ℕ) → j < 64 → bit w j ≡ test j = λ j h. ap (λ x. bit x j) out ∙ bit-mask_below test 64 j h in
     passing_least (bit m) (bit w) i l.1 (kept i l.0 ∙ cond-true (eqb i i) false (bit m i) (eq-eqb i i refl)) l.2 64 l.0
     (λ j h ne. kept j h ∙ cond-false (eqb j i) false (bit m j) (ne_eqb j i ne))
+
+-- what comes first of the numbers below n is one of them
+pub passing_below : (f : ℕ → Bool) (n i : ℕ) (rest : List ℕ) → passing f n ≡ i ∷ rest → i < n
+unfolding passing
+passing_below f zero i rest e = cc
+passing_below f (suc n) i rest e = first_of (passing f n) (f n) (λ j front o. passing_below f n j front o) refl e
+  where
+    first_of : (front : List ℕ) (b : Bool) → ((j : ℕ) (more : List ℕ) → passing f n ≡ j ∷ more → j < n) →
+        passing f n ≡ front → front ++ cond b (n ∷ []) [] ≡ i ∷ rest → i < suc n
+    first_of [] true earlier o e = let here : n ≡ i = cc in omega arith
+    first_of [] false earlier o e = cc
+    first_of (j ∷ front) b earlier o e = let here : j ≡ i = cc in omega (arith, earlier j front o)
