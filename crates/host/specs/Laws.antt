@@ -66,11 +66,9 @@ names (picturing i text) (choice_of k) = None
 names (choosing i s) (part q) = None
 names (choosing i s) (choice_of k) = only (k == i) (s == 1)
 
--- each table has its 64 rows, as every table of the code has
-pub record Whole (h : Host) : Type 0 where
-  pub pes : length h.pes ≡ 64
-  pub across : length h.across ≡ 64
-  pub down : length h.down ≡ 64
+-- a map has 64 rows, as every map of the code has
+abbrev pub Whole : Host → Type 0
+Whole h = length h.rows ≡ 64
 
 -- two calls that name the same places
 abbrev pub Alike : Change → Change → Type 0
