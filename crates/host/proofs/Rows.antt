@@ -10,20 +10,16 @@ use Rattle.host.specs.declared.Host.{Host}
 use Rattle.host.specs.declared.part.Part.TheVariants.{RowSwitch, ColumnSwitch}
 use Rattle.host.specs.Maps.{row_at, faulty, faulty_above, usable, stands}
 
--- a test that is passed can be left out
-past_true : (a x y : Bool) → a ≡ true → x ≡ y → x ≡ (a && y)
-past_true a x y e same = same ∙ ap (λ b. b && y) (sym e)
-
 module _ (h : Host) (i : ℕ) where
   -- outside the card nothing is usable and nothing stands
   pub no_row : h.size.rows ≤ i → (j : ℕ) → usable h i j ≡ false
-  no_row l j = rw (le-ltb i h.size.rows l)
+  no_row l j = grind (arith, nat_tests)
 
   pub no_column : (j : ℕ) → h.size.columns ≤ j → usable h i j ≡ false
-  no_column j l = and_left _ _ (and_right (ltb i h.size.rows) (ltb j h.size.columns) (le-ltb j h.size.columns l))
+  no_column j l = grind (arith, nat_tests)
 
   pub no_standing : h.size.rows ≤ i → stands h i ≡ false
-  no_standing l = and_left _ _ (and_left (ltb i h.size.rows) (bit h.choice i) (le-ltb i h.size.rows l))
+  no_standing l = grind (arith, nat_tests)
 
   pub bit-usable : (j : ℕ) → bit (mask (usable h i)) j ≡ usable h i j
   bit-usable = bit-mask_all (usable h i) (λ j l. no_column j (omega (arith, h.size.sized.3)))

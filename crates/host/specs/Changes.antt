@@ -1,5 +1,6 @@
 -- How calls change a map, and which are refused. Assumes nothing.
 use Rattle.std.specs.Prelude.{ℕ, Bool, true, cond, not, ◌&&◌, ◌||◌, List, [], ◌∷◌, length, replicate, None, Option, Result, ◌==◌, nat_lt, slice_index, slice_set}
+use Rattle.std.specs.List.{list_all}
 use Rattle.masks.specs.Masks.{bit, mask}
 use Rattle.host.specs.declared.Host.{Host}
 use Rattle.host.specs.declared.Row.{Row}
@@ -26,8 +27,7 @@ abbrev pub crossed : List ℕ → ℕ → Bool
 crossed text j = slice_index text j == 88
 
 abbrev pub drawn : List ℕ → Bool
-drawn [] = true
-drawn (b ∷ text) = (b == 46 || b == 88) && drawn text
+drawn text = list_all (λ b. b == 46 || b == 88) text
 
 -- the first refusal that a call meets
 abbrev pub refusal : Size → Change → Option Refusal
