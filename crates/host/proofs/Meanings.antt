@@ -1,12 +1,12 @@
 -- When a PE is usable and when a row stands. Assumes nothing.
-use Rattle.std.proofs.Common.{◌≡◌, ℕ, zero, suc, ◌+◌, ◌<◌, ◌≤◌, true, false, not, ltb, Decides, refl, ap, ◌∙◌, ⊎_elim, arith}
-use Rattle.std.proofs.lemmas.Bool.{cases_lt, ltb-true, lt-ltb, le-ltb, and_parts, and_from, and_left, and_right, not-true, not_from_false}
+use Rattle.std.proofs.Common.{◌≡◌, ℕ, zero, suc, ◌+◌, ◌<◌, true, false, Decides, refl, ap, ◌∙◌, ⊎_elim, arith}
+use Rattle.std.proofs.lemmas.Bool.{cases_lt}
 use Rattle.std.proofs.lemmas.Bool.Decides.{nat_tests}
 use Rattle.masks.specs.Masks.{none}
 use Rattle.masks.proofs.Masks.{mask_empty}
 use Rattle.host.specs.declared.Host.{Host}
-use Rattle.host.specs.declared.part.Part.TheVariants.{Pe, RowSwitch, ColumnSwitch}
-use Rattle.host.specs.Maps.{inside, faulty, faulty_above, chosen, usable, stands}
+use Rattle.host.specs.declared.part.Part.TheVariants.{RowSwitch, ColumnSwitch}
+use Rattle.host.specs.Maps.{faulty, faulty_above, usable, stands}
 use Rattle.host.specs.Laws.{Healthy, Usable, Stands}
 
 module _ (h : Host) where

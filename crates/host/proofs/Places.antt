@@ -1,7 +1,7 @@
 -- The states of places, before and after a call. Assumes nothing.
 use Rattle.std.proofs.Common.{◌≡◌, ℕ, ◌<◌, Bool, true, false, cond, ◌&&◌, eqb, ltb, ◌⊎◌, get_or, replicate, Some, None, Option, unwrap_or, sym, refl, ap, ◌∙◌, subst, inl, inr, ⊎_elim, arith, pow_pos}
 use Rattle.std.proofs.lemmas.List.{length-set}
-use Rattle.std.proofs.lemmas.Bool.{both_ways, and_from, not-false, and_right}
+use Rattle.std.proofs.lemmas.Bool.{and_from, not-false, and_right}
 use Rattle.std.proofs.lemmas.Bool.Decides.{nat_tests}
 use Rattle.std.proofs.lemmas.Grind.{common_steps}
 use Rattle.masks.specs.Masks.{bit}
@@ -28,9 +28,8 @@ row_limit z i e = grind (arith, nat_tests, z.sized)
 
 -- a place of the card whose flag was set, or kept, has that state
 settled : (here named b flag was : Bool) → here ≡ true → flag ≡ cond named b was → (here && flag) ≡ unwrap_or (only named b) (here && was)
-settled true true b flag was h e = e
-settled true false b flag was h e = e
-settled false named b flag was h e = absurd (both_ways false refl h)
+settled here true b flag was on e = grind (arith, nat_tests)
+settled here false b flag was on e = grind (arith, nat_tests)
 
 pub done_by : (h : Host) (c : Change) → refusal h.size c ≡ None → after h c ≡ set_by h c
 done_by h c e = ap (λ o. unless o h (set_by h c)) e
@@ -66,25 +65,21 @@ marked h w (ColumnSwitch i j) (ColumnSwitch k l) b named here =
     put_in h w i _ (λ row. row.down) k l _ j b refl (omega (arith, (limits h.size _ _ named).0)) (limits h.size _ _ here).1 here
 
 pub passed : (test : Bool) (x : Refusal) (later : Option Refusal) → refuse test x later ≡ None → (test ≡ false) × (later ≡ None)
-passed true x later e = absurd (let z : ◌≡◌ {A = ℕ} 0 1 = cc in omega arith)
+passed true x later e = absurd (cc)
 passed false x later e = (refl, e)
 
 -- a change that meets no refusal names places of the card
 set_state : (h : Host) → Whole h → (c : Change) (q : Place) → on_card h.size q ≡ true → refusal h.size c ≡ None → state (set_by h c) q ≡ unwrap_or (names c q) (state h q)
 set_state h w (marking p s) (part q) here e = marked h w p q (eqb s 1) (not-false (inside h.size p) (passed _ _ _ e).0) here
-set_state h w (marking (Pe i j) s) (choice_of k) here e = refl
-set_state h w (marking (RowSwitch i j) s) (choice_of k) here e = refl
-set_state h w (marking (ColumnSwitch i j) s) (choice_of k) here e = refl
 set_state h w (picturing i text) (part (Pe k l)) here e =
     let r = row_limit h.size i (not-false (ltb i h.size.rows) (passed _ _ _ e).0) in
     settled _ (eqb k i) (crossed text l) _ _ here (bit-with_row h i _ (λ row. row.pes) (crossed text) refl (omega (arith, w)) k l (limits h.size _ _ here).1)
 set_state h w (picturing i text) (part (RowSwitch k l)) here e = kept h w i _ (λ row. row.across) k l _ refl
 set_state h w (picturing i text) (part (ColumnSwitch k l)) here e = kept h w i _ (λ row. row.down) k l _ refl
-set_state h w (picturing i text) (choice_of k) here e = refl
-set_state h w (choosing i s) (part (Pe k l)) here e = refl
-set_state h w (choosing i s) (part (RowSwitch k l)) here e = refl
-set_state h w (choosing i s) (part (ColumnSwitch k l)) here e = refl
 set_state h w (choosing i s) (choice_of k) here e = settled _ (eqb k i) (eqb s 1) _ _ here (bit-put h.choice i (eqb s 1) k (row_limit h.size k here))
+set_state h w (marking (Pe i j) s) (choice_of k) here e = refl
+set_state h w (choosing i s) (part (Pe k l)) here e = refl
+set_state h w _ _ here e = refl
 
 pub state_after : (h : Host) (c : Change) (q : Place) → Whole h → on_card h.size q ≡ true → refusal h.size c ≡ None → state (after h c) q ≡ unwrap_or (names c q) (state h q)
 state_after h c q w here e = ap (λ g. state g q) (done_by h c e) ∙ set_state h w c q here e
@@ -103,10 +98,8 @@ state-opened z (choice_of i) here = and_from _ _ here (bit-mask_below (λ i. ltb
 
 set_whole : (h : Host) (c : Change) → Whole h → Whole (set_by h c)
 set_whole h (marking (Pe i j) s) w = length-set h.rows i _ ∙ w
-set_whole h (marking (RowSwitch i j) s) w = length-set h.rows i _ ∙ w
-set_whole h (marking (ColumnSwitch i j) s) w = length-set h.rows i _ ∙ w
-set_whole h (picturing i text) w = length-set h.rows i _ ∙ w
 set_whole h (choosing i s) w = w
+set_whole h _ w = length-set h.rows _ _ ∙ w
 
 pub whole-after : (h : Host) (c : Change) → Whole h → Whole (after h c)
 whole-after h c w =

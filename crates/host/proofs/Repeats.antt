@@ -17,26 +17,18 @@ part_again h (ColumnSwitch i j) a b = row_again h i _ (λ row. record row { down
 
 set_later : (h : Host) (c d : Change) → Alike c d → set_by (set_by h c) d ≡ set_by h d
 set_later h (marking p s) (marking q t) e = ap (λ r. with_part (with_part h r (eqb s 1)) q (eqb t 1)) e ∙ part_again h q (eqb s 1) (eqb t 1)
-set_later h (marking p s) (picturing k u) e = absurd e
-set_later h (marking p s) (choosing k t) e = absurd e
-set_later h (picturing i u) (marking q t) e = absurd e
 set_later h (picturing i u) (picturing k v) e =
     ap (λ n. set_by (set_by h (picturing n u)) (picturing k v)) e
     ∙ row_again h k _ (λ row. record row { pes = mask (crossed v) }) refl
-set_later h (picturing i u) (choosing k t) e = absurd e
-set_later h (choosing i s) (marking q t) e = absurd e
-set_later h (choosing i s) (picturing k u) e = absurd e
 set_later h (choosing i s) (choosing k t) e =
     ap (λ n. set_by (set_by h (choosing n s)) (choosing k t)) e
     ∙ ap (with_choice h) (put-put h.choice k (eqb s 1) (eqb t 1))
+set_later h _ _ e = absurd e
 
 -- no call changes the size of the card
 set_size : (h : Host) (c : Change) → (set_by h c).size ≡ h.size
 set_size h (marking (Pe i j) s) = refl
-set_size h (marking (RowSwitch i j) s) = refl
-set_size h (marking (ColumnSwitch i j) s) = refl
-set_size h (picturing i text) = refl
-set_size h (choosing i s) = refl
+set_size h _ = refl
 
 pub later : (h : Host) (c d : Change) → Alike c d → refusal h.size d ≡ None → after (after h c) d ≡ after h d
 later h c d alike e =

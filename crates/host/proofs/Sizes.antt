@@ -1,7 +1,6 @@
 -- Sizes by their sides. Assumes nothing.
 use Rattle.std.proofs.Common.{◌≡◌, ℕ, ◌≤◌, Bool, true, false, Ok, refl, ap}
 use Rattle.std.proofs.Props.{props}
-use Rattle.host.specs.declared.size.Size.{Size}
 use Rattle.host.specs.Sizes.{fits, size_if, tested}
 
 module _ (rows columns : ℕ) where

@@ -1,5 +1,5 @@
 -- How calls change a map, and which are refused. Assumes nothing.
-use Rattle.std.specs.Prelude.{ℕ, Bool, true, cond, not, ◌&&◌, ◌||◌, List, [], ◌∷◌, length, replicate, None, Option, Result, ◌==◌, nat_lt, slice_index, slice_set}
+use Rattle.std.specs.Prelude.{ℕ, Bool, cond, not, ◌||◌, List, length, replicate, None, Option, Result, ◌==◌, nat_lt, slice_index, slice_set}
 use Rattle.std.specs.List.{list_all}
 use Rattle.masks.specs.Masks.{bit, mask}
 use Rattle.host.specs.declared.Host.{Host}

@@ -17,6 +17,7 @@ inside z (ColumnSwitch i j) = nat_lt (i + 1) z.rows && nat_lt j z.columns
 abbrev pub healthy : Row
 healthy = record { pes = 0; across = 0; down = 0 }
 
+-- a row of a map, and one without a fault past the last
 abbrev pub row_at : Host → ℕ → Row
 row_at h i = slice_index_or h.rows i healthy
 

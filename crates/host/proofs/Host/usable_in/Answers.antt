@@ -1,6 +1,5 @@
-use Rattle.std.proofs.Common.{ltb, sym, ap, ◌∙◌, arith, pow_pos}
+use Rattle.std.proofs.Common.{ltb, ap, ◌∙◌, arith}
 use Rattle.masks.specs.Masks.{mask}
-use Rattle.masks.proofs.Bits.{bit_low}
 use Rattle.masks.proofs.Masks.{mask-none, mask_all}
 use Rattle.host.specs.Maps.{usable}
 use Rattle.host.proofs.Rows.{no_row, usable-mask}
@@ -16,4 +15,4 @@ pub returns : goal.returns
 returns c =
     c.without.ensures
     ∙ usable-mask c.args.self.now c.args.row _ _ _ _ (omega arith) (c.below.ensures ∙ ap (λ n. mask (λ k. ltb k n)) c.columns.ensures)
-      (ap (λ row. row.pes) c.row_at.ensures) c.switches_above.ensures c.switches_below.ensures
+    (ap (λ row. row.pes) c.row_at.ensures) c.switches_above.ensures c.switches_below.ensures

@@ -1,4 +1,4 @@
-use Rattle.std.proofs.Common.{◌≡◌, cond, eqb, refl, ap, ◌∙◌, arith}
+use Rattle.std.proofs.Common.{◌≡◌, cond, eqb, refl, ◌∙◌, arith}
 use Rattle.std.proofs.lemmas.Grind.{common_steps}
 use Rattle.std.proofs.lemmas.Bool.Decides.{nat_tests}
 use Rattle.masks.specs.Masks.{bit, mask}
@@ -18,7 +18,7 @@ loop-i-preserved c =
     elim c.match-from.branch [ in-46 w ↦ grind (arith, nat_tests) | in-X w ↦ grind (arith, nat_tests) ]
     in (
       c.with-bits.ensures ∙ (λ p. mask (λ j. cond (eqb j i) (cross p) (bit (c.loop-i.invariant.0 p) j))) ∙ mask-more (crossed text) i (omega (arith, c.requires)),
-      elim c.match-from.branch [ in-46 w ↦ grind (arith, common_steps, nat_tests) | in-X w ↦ grind (arith, common_steps, nat_tests) ]
+      elim c.match-from.branch [ in-46 w ↦ grind (arith, common_steps, nat_tests) | in-X w ↦ grind (arith, common_steps, nat_tests) ],
     )
 
 pub returns : goal.returns
