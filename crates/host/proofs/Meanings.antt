@@ -40,7 +40,10 @@ module _ (h : Host) where
       switches = mask_empty (λ j. faulty h (RowSwitch i j))
 
       reads : stands h i ≡ true → Stands h i
-      reads e = record { picked = grind (arith, nat_tests); joined = λ j. ⊎_elim (λ l. switches.0 (grind (arith, nat_tests)) j l) (λ l. grind (arith, nat_tests, h.size.sized)) (cases_lt j 64) }
+      reads e = record {
+        picked = grind (arith, nat_tests);
+        joined = λ j. ⊎_elim (λ l. switches.0 (grind (arith, nat_tests)) j l) (λ l. grind (arith, nat_tests, h.size.sized)) (cases_lt j 64);
+      }
 
       made : Stands h i → stands h i ≡ true
       made s = let whole = switches.1 (λ j _. s.joined j) in grind (arith, nat_tests)

@@ -28,15 +28,18 @@ module _ (h : Host) (i : ℕ) where
       ((j : ℕ) → j < h.size.columns → bit above j ≡ faulty_above h i j) →
       ((j : ℕ) → j < h.size.columns → bit below j ≡ faulty h (ColumnSwitch i j)) →
       mask (λ j. bit all j && not (bit (bit_or (bit_or pes above) below) j)) ≡ mask (usable h i)
-  usable-mask all pes above below l columns here up down = mask-same _ _ 64 (λ j k.
-      let column : bit all j ≡ ltb j h.size.columns = ap (λ m. bit m j) columns ∙ bit-mask_below _ 64 j k in
-      grind (arith, nat_tests, bit-bit_or, up j, down j))
+  usable-mask all pes above below l columns here up down = mask-same _ _ 64 (λ j k. grind (arith, nat_tests, bit-bit_or, column j k, up j, down j))
+    where
+      column : (j : ℕ) → j < 64 → bit all j ≡ ltb j h.size.columns
+      column j k = ap (λ m. bit m j) columns ∙ bit-mask_below _ 64 j k
 
   -- across and switches are the row switches that are faulty, and all that there are
-  pub stands_by_switches : (across switches common : ℕ) → i < h.size.rows → bit h.choice i ≡ true → across ≡ (row_at h i).across → switches ≡ mask (λ k. ltb k (h.size.columns - 1)) →
-      common ≡ mask (λ j. bit across j && bit switches j) → eqb common 0 ≡ stands h i
-  stands_by_switches across switches common l on here all each =
-      let same : common ≡ mask (λ j. faulty h (RowSwitch i j)) = each ∙ mask-same _ _ 64 (λ j k.
-      let switch : bit switches j ≡ ltb j (h.size.columns - 1) = ap (λ m. bit m j) all ∙ bit-mask_below _ 64 j k in
-      grind (arith, nat_tests)) in
-      grind (arith, nat_tests)
+  pub stands_by_switches : (across switches common : ℕ) → i < h.size.rows → bit h.choice i ≡ true → across ≡ (row_at h i).across →
+      switches ≡ mask (λ k. ltb k (h.size.columns - 1)) → common ≡ mask (λ j. bit across j && bit switches j) → eqb common 0 ≡ stands h i
+  stands_by_switches across switches common l on here all each = let faults = same in grind (arith, nat_tests)
+    where
+      switch : (j : ℕ) → j < 64 → bit switches j ≡ ltb j (h.size.columns - 1)
+      switch j k = ap (λ m. bit m j) all ∙ bit-mask_below _ 64 j k
+
+      same : common ≡ mask (λ j. faulty h (RowSwitch i j))
+      same = each ∙ mask-same _ _ 64 (λ j k. grind (arith, nat_tests, switch j k))

@@ -18,9 +18,6 @@ pub put-put : (m j : ℕ) (a b : Bool) → put (put m j a) j b ≡ put m j b
 put-put m j a b = mask-same _ _ 64 (λ k l. grind (arith, nat_tests, bit-put))
 
 module _ (h : Host) (i : ℕ) (row : Row) where
-  pub row_at-with_row : (k : ℕ) → i < length h.rows → row_at (with_row h i row) k ≡ cond (eqb k i) row (row_at h k)
-  row_at-with_row k l = grind (arith, nat_tests, common_steps)
-
   -- what a row set shares with the one before it stays in every row
   pub kept_in_rows : (f : Row → ℕ) (k : ℕ) → f row ≡ f (row_at h i) → f (row_at (with_row h i row) k) ≡ f (row_at h k)
   kept_in_rows f k same = grind (arith, nat_tests, common_steps)
