@@ -14,7 +14,7 @@ use Rattle.host.specs.declared.part.Part.TheVariants.{Pe, RowSwitch, ColumnSwitc
 use Rattle.host.specs.declared.refusal.Refusal.{Refusal}
 use Rattle.host.specs.declared.size.Size.{Size}
 use Rattle.host.specs.Refusals.{refuse, unless}
-use Rattle.host.specs.Maps.{inside, healthy, row_at, faulty}
+use Rattle.host.specs.Maps.{inside, healthy_row, row_at, faulty}
 use Rattle.host.specs.Changes.{Change, marking, picturing, choosing, opened, crossed, refusal, set_by, after, put, with_row, with_part}
 use Rattle.host.specs.Laws.{Place, part, choice_of, on_card, state, first_state, same, only, names, Whole}
 use Rattle.host.proofs.Tables.{bit-put, bit-with_row, bit-put_in_row, kept_in_rows}
@@ -84,10 +84,10 @@ set_state h w _ _ here e = refl
 pub state_after : (h : Host) (c : Change) (q : Place) → Whole h → on_card h.size q ≡ true → refusal h.size c ≡ None → state (after h c) q ≡ unwrap_or (names c q) (state h q)
 state_after h c q w here e = ap (λ g. state g q) (done_by h c e) ∙ set_state h w c q here e
 
-blank : (n i : ℕ) → get_or (replicate n healthy) i healthy ≡ healthy
+blank : (n i : ℕ) → get_or (replicate n healthy_row) i healthy_row ≡ healthy_row
 blank n i = grind (arith, common_steps)
 
-healthy_at : (z : Size) (i j : ℕ) (f : Row → ℕ) (here : Bool) → f healthy ≡ 0 → (here && bit (f (row_at (opened z) i)) j) ≡ false
+healthy_at : (z : Size) (i j : ℕ) (f : Row → ℕ) (here : Bool) → f healthy_row ≡ 0 → (here && bit (f (row_at (opened z) i)) j) ≡ false
 healthy_at z i j f here e = and_right _ _ (ap (λ row. bit (f row) j) (blank 64 i) ∙ ap (λ m. bit m j) e ∙ bit_low 0 j (pow_pos j))
 
 pub state-opened : (z : Size) (q : Place) → on_card z q ≡ true → state (opened z) q ≡ first_state q

@@ -10,11 +10,11 @@ use Rattle.host.specs.declared.refusal.Refusal.{Refusal}
 use Rattle.host.specs.declared.refusal.Refusal.TheVariants.{Outside, BadState, BadLength, BadCharacter}
 use Rattle.host.specs.declared.size.Size.{Size}
 use Rattle.host.specs.Refusals.{refuse, answered, unless}
-use Rattle.host.specs.Maps.{inside, healthy, row_at}
+use Rattle.host.specs.Maps.{inside, healthy_row, row_at}
 
 -- all is healthy, and every row is chosen
 abbrev pub opened : Size → Host
-opened z = record { size = z; rows = replicate 64 healthy; choice = mask (λ i. nat_lt i z.rows) }
+opened z = record { size = z; rows = replicate 64 healthy_row; choice = mask (λ i. nat_lt i z.rows) }
 
 -- what a call asks for
 pub data Change : Type 0 where

@@ -14,12 +14,12 @@ inside z (RowSwitch i j) = nat_lt i z.rows && nat_lt (j + 1) z.columns
 inside z (ColumnSwitch i j) = nat_lt (i + 1) z.rows && nat_lt j z.columns
 
 -- a row without a faulty part
-abbrev pub healthy : Row
-healthy = record { pes = 0; across = 0; down = 0 }
+abbrev pub healthy_row : Row
+healthy_row = record { pes = 0; across = 0; down = 0 }
 
--- a row of a map, and one without a fault past the last
+-- row i of a map; past the last row all is healthy
 abbrev pub row_at : Host → ℕ → Row
-row_at h i = slice_index_or h.rows i healthy
+row_at h i = slice_index_or h.rows i healthy_row
 
 abbrev pub flag : Host → Part → Bool
 flag h (Pe i j) = bit (row_at h i).pes j

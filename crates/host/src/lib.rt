@@ -15,7 +15,7 @@ mod tests;
 
 use size::Size;
 
-/// What is faulty in one row of a card: bit j speaks of column j.
+/// What is faulty in row i of a card: bit j is set where the PE or switch (i, j) is.
 #[derive(Clone, Copy, Default)]
 pub struct Row {
     /// faulty PEs
