@@ -22,7 +22,7 @@ pub record Good (j : ℕ) (rows : List ℕ) (o : Outcome) : Type 0 where
 good_nothing : (j : ℕ) (rows : List ℕ) → Good j rows (nothing rows)
 good_nothing j rows = record { fewer = fewer_same rows; column = tt; tries = tries_none rows }
 
-abbrev outcome : Option (List ℕ) → List ℕ → List PE → Outcome
+abbrev pub outcome : Option (List ℕ) → List ℕ → List PE → Outcome
 outcome found untried tried = record { found = found; untried = untried; tried = tried }
 
 found-before : (j : ℕ) (u v w : List ℕ) (found : Option (List ℕ)) → Fewer v u → Found j v w found → Found j u w found
