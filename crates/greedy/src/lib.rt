@@ -6,6 +6,8 @@ ghost use Rattle.greedy.specs.Search.{neighbour, reach, try_leftmost, try_lower,
 ghost use Rattle.greedy.specs.Answers.{seen, told, one_after_another, at_front};
 ghost use Rattle.greedy.specs.Laws.{Laws};
 
+use masks::iter::Members;
+
 #[cfg(test)]
 mod tests;
 
@@ -18,11 +20,9 @@ pub fn search(untried: &mut [u64], out: &mut [u8]) -> u32
     ensures untried { untried.new ≡ (greedy untried.old).untried }
 {
     let rows = untried.len();
-    if rows == 0 {
-        return 0;
-    }
+    let starts = untried.first().copied().unwrap_or(0);
     let mut columns = 0;
-    while let Some(start) = masks::lowest(untried[0]) {
+    for start in Members::of(starts) {
         let at = columns as usize * rows;
         if reach(start, untried, &mut out[at..at + rows]) {
             columns += 1;
