@@ -1,6 +1,5 @@
 mod Near
 mod Steps
-mod Counting
 mod Turns
 pub mod Going
 mod Rows

@@ -1,14 +1,9 @@
 -- The columns near a column, as the numbers below one bound and not below another. Assumes nothing.
-use Rattle.std.proofs.Common.{◌≡◌, ℕ, ◌+◌, ◌-◌, ◌<◌, min, Bool, true, false, not, ◌&&◌, ltb, leb, sym, refl, ap, ◌∙◌, ap₂, ⊎_elim, arith}
+use Rattle.std.proofs.Common.{◌≡◌, ℕ, ◌+◌, ◌-◌, ◌<◌, min, not, ◌&&◌, ltb, leb, sym, ap, ◌∙◌, ap₂, ⊎_elim, arith}
+use Rattle.std.proofs.Math.Bool.{and_comm}
 use Rattle.std.proofs.lemmas.Bool.{cases_lt, lt-ltb, le-ltb, le-leb, lt-leb}
 use Rattle.masks.specs.Masks.{bit, mask}
 use Rattle.masks.proofs.Masks.{bit-mask_below}
-
-swap_and : (x y : Bool) → (x && y) ≡ (y && x)
-swap_and true true = refl
-swap_and true false = refl
-swap_and false true = refl
-swap_and false false = refl
 
 upper : (j k : ℕ) → k < 64 → ltb k (min (j + 2) 255) ≡ leb k (j + 1)
 upper j k h =
@@ -28,4 +23,4 @@ near_test j k up low a b h is_up is-low is-a is_b =
     ap₂ (λ x y. x && not y)
     (ap (λ m. bit m k) is-a ∙ bit-mask_below _ 64 k h ∙ ap (ltb k) is_up ∙ upper j k h)
     (ap (λ m. bit m k) is_b ∙ bit-mask_below _ 64 k h ∙ ap (ltb k) is-low)
-    ∙ ap (λ x. leb k (j + 1) && x) (lower j k) ∙ swap_and (leb k (j + 1)) (leb j (k + 1))
+    ∙ ap (λ x. leb k (j + 1) && x) (lower j k) ∙ and_comm (leb k (j + 1)) (leb j (k + 1))

@@ -1,53 +1,38 @@
 -- One start more: what it leaves for those that follow. Assumes nothing.
-use Rattle.std.proofs.Common.{◌≡◌, ℕ, zero, suc, ◌-◌, ◌<◌, Bool, true, false, List, [], ◌∷◌, length, get_or, Some, None, Option, sym, refl, ap, ◌∙◌, ap₂, arith, pow_pos}
+use Rattle.std.proofs.Common.{◌≡◌, ℕ, zero, suc, ◌-◌, Bool, true, false, List, [], ◌∷◌, length, get_or, Some, None, Option, sym, refl, ap, ◌∙◌, ap₂, arith, pow_pos}
 use Rattle.std.proofs.lemmas.Bool.{true≢false, false≢true}
 use Rattle.masks.specs.Masks.{bit, how_many, least}
-use Rattle.masks.specs.Laws.{Least}
 use Rattle.masks.specs.Members.{members}
-use Rattle.masks.proofs.Counts.{least-found}
 use Rattle.masks.proofs.Members.{passing-empty, members-none, members_first}
 use Rattle.masks.proofs.Bits.{bit_low}
 use Rattle.greedy.specs.Search.{Outcome, PE, without, reach, ended, before, and_then, starts, usable_starts, greedy}
 use Rattle.greedy.specs.Answers.{seen, told}
 use Rattle.greedy.proofs.Columns.{reach_is}
-use Rattle.greedy.proofs.Counting.{how_many-without}
-
--- a start is an untried PE
-least_is : (row j : ℕ) → least (bit row) ≡ Some j → (j < 64) × (bit row j ≡ true)
-least_is row j e = let l : Least (bit row) 64 (Some j) = rw e at (least-found (bit row) 64) in (l.0, l.1)
+use Rattle.greedy.proofs.Rows.{how_many-without}
 
 -- the starts of a row, where j is the next one
 module _ (row j : ℕ) (later : List ℕ) (next : members (bit row) ≡ j ∷ later) where
-  first_of : (o : Option ℕ) → least (bit row) ≡ o → (o ≡ Some j) × (members (bit (without row j)) ≡ later)
-  first_of None e = absurd (nil_cons (sym (members-none row e) ∙ next))
-    where
-      nil_cons : [] ≡ j ∷ later → ⊥
-      nil_cons e = let z : ◌≡◌ {A = ℕ} 0 1 = cc in omega arith
-  first_of (Some i) e =
+  next_is : (o : Option ℕ) → least (bit row) ≡ o → (o ≡ Some j) × (members (bit (without row j)) ≡ later)
+  next_is None e = absurd (omega (arith, ap length (sym (members-none row e) ∙ next)))
+  next_is (Some i) e =
       let both : i ∷ members (bit (without row i)) ≡ j ∷ later = sym (members_first row i (without row i) e refl) ∙ next in
       let same : i ≡ j = cc in
-      let rest : members (bit (without row i)) ≡ later = cc in
-      (ap Some same, ap (λ k. members (bit (without row k))) (sym same) ∙ rest)
+      (ap Some same, ap (λ k. members (bit (without row k))) (sym same) ∙ cc)
 
   pub start_is : (least (bit row) ≡ Some j) × (members (bit (without row j)) ≡ later)
-  start_is = first_of (least (bit row)) refl
+  start_is = next_is (least (bit row)) refl
 
+-- no starts are left
 pub no_start : (row : ℕ) → members (bit row) ≡ [] → least (bit row) ≡ None
 no_start row none = none_of (least (bit row)) refl
   where
     none_of : (o : Option ℕ) → least (bit row) ≡ o → o ≡ None
     none_of None e = refl
-    none_of (Some i) e = absurd (cons_nil (sym (members_first row i (without row i) e refl) ∙ none))
-      where
-        cons_nil : i ∷ members (bit (without row i)) ≡ [] → ⊥
-        cons_nil e = let z : ◌≡◌ {A = ℕ} 0 1 = cc in omega arith
+    none_of (Some i) e = absurd (omega (arith, ap length (sym (members_first row i (without row i) e refl) ∙ none)))
 
 -- with no rows there is no start
 pub rows_are : (j : ℕ) (later : List ℕ) → members (bit 0) ≡ j ∷ later → ⊥
-rows_are j later next = nil_cons (sym (passing-empty (bit 0) 64 (λ i l. bit_low 0 i (pow_pos i))) ∙ next)
-  where
-    nil_cons : [] ≡ j ∷ later → ⊥
-    nil_cons e = let z : ◌≡◌ {A = ℕ} 0 1 = cc in omega arith
+rows_are j later next = omega (arith, ap length (sym (passing-empty (bit 0) 64 (λ i l. bit_low 0 i (pow_pos i))) ∙ next))
 
 starts-after : (n j row : ℕ) (rows : List ℕ) → usable_starts (reach n j (row ∷ rows)).untried ≡ how_many (bit (without row j))
 starts-after n j row rows = ap (λ o. usable_starts o.untried) (reach_is n j row rows)
@@ -65,10 +50,9 @@ starts-none (suc n) row rows e = ap (λ o. elim o [ Some k ↦ and_then (reach (
 greedy_start : (j row : ℕ) (rows : List ℕ) → least (bit row) ≡ Some j →
     greedy (row ∷ rows) ≡ and_then (reach (length rows) j (row ∷ rows)) greedy
 greedy_start j row rows e =
-    let is = least_is row j e in
     let o = reach (length rows) j (row ∷ rows) in
     let left : ℕ = how_many (bit (without row j)) in
-    ap (λ n. starts n (row ∷ rows)) (how_many-without row j is.0 is.1) ∙ starts_some left j row rows e
+    ap (λ n. starts n (row ∷ rows)) (how_many-without row j e) ∙ starts_some left j row rows e
     ∙ ap (λ n. and_then o (starts n)) (sym (starts-after (length rows) j row rows))
 
 pub greedy_end : (u : List ℕ) → least (bit (get_or u 0 0)) ≡ None → greedy u ≡ ended u
@@ -78,9 +62,7 @@ greedy_end (row ∷ rows) e = starts-none (how_many (bit row)) row rows e
 
 pub fewer_starts : (j row : ℕ) (rows : List ℕ) → least (bit row) ≡ Some j →
     usable_starts (row ∷ rows) ≡ suc (usable_starts (reach (length rows) j (row ∷ rows)).untried)
-fewer_starts j row rows e =
-    let is = least_is row j e in
-    how_many-without row j is.0 is.1 ∙ ap suc (sym (starts-after (length rows) j row rows))
+fewer_starts j row rows e = how_many-without row j e ∙ ap suc (sym (starts-after (length rows) j row rows))
 
 -- what a call of `reach` tells of its outcome
 module _ (p q u untried : List ℕ) (tried : List PE) where
