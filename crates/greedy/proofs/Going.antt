@@ -1,9 +1,9 @@
 -- The loop over the starts: what is written, and what is left. Assumes nothing.
-use Rattle.std.proofs.Common.{◌≡◌, ℕ, ◌+◌, ◌-◌, ◌*◌, ◌≤◌, true, false, List, [], ◌∷◌, ◌++◌, length, get_or, take, drop, sym, refl, ap, ◌∙◌, ap₂, add-mul, one-mul, zero-mul, add-one, arith}
+use Rattle.std.proofs.Common.{◌≡◌, ℕ, ◌+◌, ◌-◌, ◌*◌, ◌≤◌, true, false, List, [], ◌∷◌, ◌++◌, length, get_or, take, drop, Some, sym, refl, ap, ◌∙◌, ap₂, add-mul, one-mul, zero-mul, add-one, arith}
 use borrow.Rule.Slice.PartMut.{put_mid}
 use Rattle.std.proofs.lemmas.List.{append-nil, append_assoc, take-append-drop, drop-drop, length-take, length-drop, length-take-le}
 use Rattle.std.proofs.lemmas.Slice.{take-put_mid, drop-put_mid}
-use Rattle.masks.specs.Masks.{bit}
+use Rattle.masks.specs.Masks.{bit, least}
 use Rattle.masks.specs.Members.{members}
 use Rattle.masks.proofs.Counts.{how_many_le}
 use Rattle.greedy.specs.Search.{without, reach, usable_starts, greedy}
@@ -44,16 +44,16 @@ module _ (R : ℕ) (first buffer : List ℕ) where
     abbrev put : List ℕ
     put = put_mid (n * R) (n * R + R - n * R) out p
 
-    -- what is left once j is tried
-    later-is : (row : ℕ) (rows : List ℕ) → Going R first buffer n (row ∷ rows) out left → get_or u' 0 0 ≡ without row j → later ≡ members (bit (get_or u' 0 0))
-    later-is row rows g is = sym (start_is row j later (sym g.starts ∙ start)).1 ∙ ap (λ r. members (bit r)) (sym is)
+    -- the start j, and those left once it is tried
+    started : (row : ℕ) (rows : List ℕ) → Going R first buffer n (row ∷ rows) out left → (least (bit row) ≡ Some j) × (members (bit (without row j)) ≡ later)
+    started row rows g = start_is row j later (sym g.starts ∙ start)
 
     pub after-found : (u : List ℕ) → Going R first buffer n u out left →
         length p ≡ length (take (n * R + R - n * R) (drop (n * R) out)) →
         seen true p u' ≡ told q (reach (length u - 1) j u) → Going R first buffer (n + 1) u' put later
     after-found [] g long e = absurd (rows_are j later (sym g.starts ∙ start))
     after-found (row ∷ rows) g kept e =
-        let t = turned_found j row rows p q u' (start_is row j later (sym g.starts ∙ start)).0 e in
+        let t = turned_found j row rows p q u' (started row rows g).0 e in
         let fits : n * R + R ≤ length out =
         omega (arith, g.room, ap (λ m. m * R) (t.fewer_are ∙ sym (add-one (usable_starts u'))), more (usable_starts u')) in
         let long : length p ≡ R = kept ∙ simp (length-take, length-drop) (omega arith) in
@@ -72,7 +72,7 @@ module _ (R : ℕ) (first buffer : List ℕ) where
               ∙ drop-drop R (n * R) buffer ∙ ap (λ m. drop m buffer) (sym (more n));
           room = omega (arith, g.room, ap (λ m. m * R) (t.fewer_are ∙ sym (add-one (usable_starts u'))), more (usable_starts u'), more n);
           few = omega (arith, g.few, t.fewer_are);
-          starts = later-is row rows g t.first_is;
+          starts = sym (started row rows g).1 ∙ ap (λ r. members (bit r)) (sym t.first_is);
         }
 
     -- a part that is put back as it was
@@ -86,7 +86,7 @@ module _ (R : ℕ) (first buffer : List ℕ) where
         seen false p u' ≡ told q (reach (length u - 1) j u) → Going R first buffer n u' put later
     after_missed [] g part e = absurd (rows_are j later (sym g.starts ∙ start))
     after_missed (row ∷ rows) g part e =
-        let both = turned_missed j row rows p q u' (start_is row j later (sym g.starts ∙ start)).0 e in
+        let both = turned_missed j row rows p q u' (started row rows g).0 e in
         let t = both.0 in
         let kept : put ≡ out = same-put (both.1 ∙ part) in
         rw kept (record {
@@ -96,7 +96,7 @@ module _ (R : ℕ) (first buffer : List ℕ) where
           behind = g.behind;
           room = omega (arith, g.room, ap (λ m. m * R) (t.fewer_are ∙ sym (add-one (usable_starts u'))), more (usable_starts u'));
           few = omega (arith, g.few, t.fewer_are);
-          starts = later-is row rows g t.first_is;
+          starts = sym (started row rows g).1 ∙ ap (λ r. members (bit r)) (sym t.first_is);
         })
 
   -- room for one column more, and one start less
