@@ -1,4 +1,3 @@
-mod Near
 mod Steps
 mod Turns
 pub mod Going
