@@ -1,7 +1,7 @@
 //! Greedy column rerouting: the search for columns, from left to right.
 #![tactic(auto)]
 
-ghost use Rattle.std.specs.Prelude.{◌≡◌, ◌-◌, ◌*◌, ◌<◌, ◌≤◌, length};
+ghost use Rattle.std.specs.Prelude.{◌≡◌, ◌-◌, ◌*◌, ◌≤◌, length};
 ghost use Rattle.greedy.specs.Search.{neighbour, reach, try_leftmost, try_lower, usable_starts, greedy};
 ghost use Rattle.greedy.specs.Answers.{seen, told, one_after_another, at_front};
 ghost use Rattle.greedy.specs.Laws.{Laws};
