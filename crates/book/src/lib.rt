@@ -41,6 +41,7 @@ impl<T: Tariff> Book<T> {
     }
 
     /// Sets a part of the card to state 0, healthy, or 1, faulty.
+    // A number, since the call itself refuses any other.
     pub fn mark(&mut self, part: Part, state: u8) -> Result<(), Refusal>
         ensures answer { result ≡ by_card (answer self.old.host (marking part state)) }
         ensures book { self.new ≡ with_map self.old (after self.old.host (marking part state)) }
@@ -59,6 +60,7 @@ impl<T: Tariff> Book<T> {
     }
 
     /// Sets a row to 1, chosen, or 0, left out.
+    // A number, as in `mark`.
     pub fn choose(&mut self, row: u8, state: u8) -> Result<(), Refusal>
         ensures answer { result ≡ by_card (answer self.old.host (choosing row state)) }
         ensures book { self.new ≡ with_map self.old (after self.old.host (choosing row state)) }

@@ -21,6 +21,7 @@ pub fn search(untried: &mut [u64], out: &mut [u8]) -> u32
 {
     let rows = untried.len();
     let starts = untried.first().copied().unwrap_or(0);
+    // Counted by hand: not every start takes a chunk of `out`, and the proof loses what `chunks_exact_mut` leaves behind it.
     let mut columns = 0;
     for start in Members::of(starts) {
         let at = columns as usize * rows;
@@ -37,6 +38,7 @@ pub fn laws()
 {}
 
 /// Whether a column can be completed from the PE in this column of the first row; it is written to `path`.
+// A yes or no, since the column itself lies in the caller's buffer; a struct of both slices needs two clauses for this one fact.
 #[cycle(reaching)]
 fn reach(column: u8, untried: &mut [u64], path: &mut [u8]) -> bool
     requires { length path.old ≡ length untried.old }

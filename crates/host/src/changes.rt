@@ -10,6 +10,7 @@ use crate::refusal::Refusal;
 
 impl Host {
     /// Sets a part to state 0, healthy, or 1, faulty.
+    // A number, since the call itself refuses any other.
     pub fn mark(&mut self, part: Part, state: u8) -> Result<(), Refusal>
         ensures answer { result ≡ answer self.old (marking part state) }
         ensures map { self.new ≡ after self.old (marking part state) }
@@ -51,6 +52,7 @@ impl Host {
     }
 
     /// Sets a row to 1, chosen, or 0, left out.
+    // A number, as in `mark`.
     pub fn choose(&mut self, row: u8, state: u8) -> Result<(), Refusal>
         ensures answer { result ≡ answer self.old (choosing row state) }
         ensures map { self.new ≡ after self.old (choosing row state) }
