@@ -47,7 +47,7 @@ impl RecordFault {
 
 /// The kinds of a format.
 pub trait RecordKind: Copy + TryFrom<u8, Error = NoSuchKind> {
-    // the kind of a byte, and how many bytes follow a kind
+    // which kind a byte is, and how many bytes follow a kind
     ghost kind_of: { ℕ → Option Self };
 
     ghost length_of: { Self → ℕ };
@@ -56,6 +56,7 @@ pub trait RecordKind: Copy + TryFrom<u8, Error = NoSuchKind> {
     fn body_length(self) -> usize
         ensures { result ≡ length_of self };
 
+    // `try_from` answers the kind of a byte
     ghost read_from_byte: { (b : ℕ) (r : Result Self NoSuchKind) → Self.try_from_gives b r → r ≡ ok_or (kind_of b) (record {}) };
 }
 
