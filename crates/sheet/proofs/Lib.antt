@@ -1,4 +1,3 @@
-pub mod Numbers
 pub mod Bodies
 pub mod Nexts
 pub mod Readings
