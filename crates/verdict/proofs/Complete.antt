@@ -18,7 +18,7 @@ use Rattle.sheet.specs.declared.record.Record.TheVariants as r
 use Rattle.sheet.specs.declared.record.Toll.{Toll}
 use Rattle.sheet.specs.declared.state.State.TheVariants as s
 use Rattle.sheet.specs.Records.{size, is_end}
-use Rattle.sheet.specs.Readings.{new_reader, reading, then, ends}
+use Rattle.sheet.specs.Readings.{reading, then, ends}
 use Rattle.sheet.specs.Runs.{placed}
 use Rattle.sheet.proofs.Runs.{reads_from}
 use Rattle.verdict.specs.declared.fault.JudgeFault.{JudgeFault}
@@ -194,7 +194,7 @@ complete b m toll f proper plan ordered =
     let listed = list_listed c (ascending b) (narrow b proper) toll plan.allowed in
     let here = reaches b proper f ts plan.family.each ordered listed in
     let back : reading (sheet_of b f toll) ≡ placed 0 (records b f ts) =
-    reads_from (records b f ts) new_reader s.Ended (records_fit b proper f ts plan.family.each listed.each) (records_legal b f ts plan.family.each) in
+    reads_from (records b f ts) s.Opening 0 s.Ended (records_fit b proper f ts plan.family.each listed.each) (records_legal b f ts plan.family.each) in
     let sup = supports_same c m toll (toll_of ts) f (λ q j i. sym (list_at c (ascending b) (narrow b proper) toll plan.allowed q j i)) plan.supports in
     let cheap = all_dear c m (toll_of ts) (within b proper) sup.none_below in
     let sum : adds_up c m (having f ts) ≡ true =

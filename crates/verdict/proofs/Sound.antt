@@ -12,7 +12,7 @@ use Rattle.sheet.specs.declared.record.Toll.{Toll}
 use Rattle.sheet.specs.declared.state.State.{State}
 use Rattle.sheet.specs.declared.state.State.TheVariants.{Opening, Ended}
 use Rattle.sheet.specs.Records.{size, is_end, all_bytes}
-use Rattle.sheet.specs.Readings.{Reading, stops, ends, then, new_reader, reading}
+use Rattle.sheet.specs.Readings.{Reading, stops, ends, then, reading}
 use Rattle.sheet.specs.Runs.{run_from, run, placed}
 use Rattle.sheet.proofs.Runs.{lost_from}
 use Rattle.sheet.proofs.Turns.{InTurn, turns}
@@ -101,7 +101,7 @@ passed b m bs a proper e = go (gathered b blank (reading bs)) refl
         let p₂ = not_refused (adds_up (card b) m g) (WrongSum p.1) None says a p₁.1 in
         record {
           final = g;
-          closed = sound b proper (reading bs) Opening 0 blank g p.1 (turns new_reader bs) refl q;
+          closed = sound b proper (reading bs) Opening 0 blank g p.1 (turns Opening 0 bs) refl q;
           price = p₁.0;
           sum = p₂.0;
           is = answered-same says a p₂.1;
@@ -129,7 +129,7 @@ sound_plan b m bs a proper u e =
     let again : g.tolls ≡ toll_list b toll = listed_again c (ascending b) (narrow b proper) g.tolls v.listed in
     let up = eqb-true (total (λ t. t.amount) g.tolls + total_charge c m g.columns) (worth * length g.columns) p.sum in
     let sum : total (λ t. t.amount) g.tolls ≡ tolls_on c.rows toll = ap (total (λ (t : Toll). t.amount)) again ∙ down_sum toll c.rows in
-    let lost : bs ≡ all_bytes w.xs = lost_from w.xs new_reader bs Ended u w.legal w.is in
+    let lost : bs ≡ all_bytes w.xs = lost_from w.xs Opening 0 bs Ended u w.legal w.is in
     let are : w.xs ≡ records b g.columns g.tolls = w.says ∙ said_all b g w.full in
     subst (Sound b m bs) p.is (record {
       plan = record {
