@@ -131,12 +131,8 @@ column_same c (q ∷ rows) (j ∷ ks) (l ∷ ls) xs ys v w e =
 
 -- a list that does not go on with a column
 abbrev NoStart : List Record → Type 0
-NoStart [] = Unit {0}
-NoStart (r.Head h ∷ xs) = Unit {0}
 NoStart (r.Start j ∷ xs) = ⊥
-NoStart (r.Step d ∷ xs) = Unit {0}
-NoStart (r.Toll t ∷ xs) = Unit {0}
-NoStart (r.End ∷ xs) = Unit {0}
+NoStart _ = Unit {0}
 
 begins : (c : Card) (rows a : List ℕ) (xs : List Record) → ColumnAlong c rows a → NoStart (column_records a ++ xs) → ⊥
 begins c [] a xs w n = w

@@ -9,13 +9,13 @@ use Rattle.plans.specs.Columns.{Card, Within}
 use Rattle.plans.specs.Least.{least}
 use Rattle.plans.specs.Tolls.{Tolls, Underpriced, worth}
 use Rattle.plans.proofs.Leasts.{tells}
-use Rattle.verdict.specs.declared.fault.JudgeFault.{JudgeFault}
+use Rattle.verdict.specs.declared.fault.CardFault.{CardFault}
 use Rattle.verdict.specs.Judging.{some_below_worth}
 
 -- a test that did not refuse
-pub unrefused : {A : Type 0} (t : Bool) (x : JudgeFault) (later : Option JudgeFault) (a a' : A) → answered (refuse t x later) a ≡ Ok a' →
+pub unrefused : {A : Type 0} (t : Bool) (x : CardFault) (later : Option CardFault) (a a' : A) → answered (refuse t x later) a ≡ Ok a' →
     (t ≡ false) × (answered later a ≡ Ok a')
-unrefused true x later a a' e = let z : ◌≡◌ {A = ℕ} 0 1 = cc in absurd (omega arith)
+unrefused true x later a a' e = absurd (cc)
 unrefused false x later a a' e = (refl, e)
 
 -- some least price is below the worth exactly where some column is
