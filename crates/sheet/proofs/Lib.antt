@@ -1,4 +1,5 @@
 pub mod Bodies
+pub mod Places
 pub mod Nexts
 pub mod Readings
 pub mod Runs

@@ -35,6 +35,7 @@ impl<'a> Reader<'a> {
     }
 
     /// Takes the next record. A fault leaves the reader where it was.
+    #[tactic(auto, using(crate::proofs::Places::next_at))]
     pub fn take(&mut self) -> Result<Record, SheetFault>
         ensures answer { result ≡ answer_of (taken self.old) }
         ensures reader { self.new ≡ reader_after self.old (taken self.old) }
