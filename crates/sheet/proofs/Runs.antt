@@ -1,8 +1,9 @@
 -- Runs of records, written and read back. Assumes nothing.
-use Rattle.std.proofs.Common.{◌≡◌, ℕ, ◌+◌, ◌<◌, true, cond, ◌⊎◌, List, [], ◌∷◌, ◌++◌, length, drop, Some, None, Ok, Err, Option, Result, unwrap_or, sym, refl, ap, ◌∙◌, subst, ap₂, inl, inr, append_assoc, arith, length-append}
+use Rattle.std.proofs.Common.{◌≡◌, ℕ, ◌+◌, ◌<◌, true, cond, ◌⊎◌, List, [], ◌∷◌, ◌++◌, length, drop, Some, None, Ok, Err, Option, Result, sym, refl, ap, ◌∙◌, subst, ap₂, inl, inr, append_assoc, arith, length-append}
 use Rattle.std.specs.List.{AllByRecursion}
 use Rattle.std.proofs.ByRecursion.{All-drop}
 use Rattle.std.proofs.lemmas.List.{append-nil, flat_map_more, take_at, drop_at, drop-drop}
+use Rattle.std.proofs.lemmas.Grind.{common_steps}
 use Rattle.host.specs.Refusals.{unless}
 use Rattle.sheet.specs.declared.fault.SheetFault.{SheetFault}
 use Rattle.sheet.specs.declared.fault.SheetFault.TheVariants.{NoEnd}
@@ -11,7 +12,6 @@ use Rattle.sheet.specs.declared.record.Record.TheVariants as r
 use Rattle.sheet.specs.declared.state.State.{State}
 use Rattle.sheet.specs.declared.state.State.TheVariants as s
 use Rattle.sheet.specs.declared.writer.Refusal.{Refusal}
-use Rattle.sheet.specs.declared.writer.Writer.{Writer}
 use Rattle.sheet.specs.Records.{bytes, size, is_end, all_bytes}
 use Rattle.sheet.specs.Readings.{next, Reading, stops, ends, then, reading_from}
 use Rattle.sheet.specs.Runs.{run_from, run, placed, Fits, Desk, put_on, after_puts, done_of, Wrote}
@@ -148,17 +148,11 @@ laid-more text more buffer =
 
 wrote_one : (buffer : List ℕ) (ys : List Record) (d : Desk) (x : Record) → Wrote buffer ys d → put_refusal d.writer x (length d.buffer) ≡ None →
     Wrote buffer (ys ++ x ∷ []) (put_on d x)
-wrote_one buffer ys d x w fits =
-    let turned : turn d.writer.state x ≡ Some (unwrap_or (turn d.writer.state x) d.writer.state) = grind arith in
-    let writer : writer_after d.writer x (length d.buffer) ≡ put_done d.writer x = ap (λ (o : Option Refusal). unless o d.writer (put_done d.writer x)) fits in
-    record {
-      bytes = ap (λ (o : Option Refusal). unless o d.buffer (laid d.writer.at (bytes x) d.buffer)) fits
-          ∙ ap₂ (λ (n : ℕ) (b : List ℕ). laid n (bytes x) b) w.place w.bytes ∙ laid-more (all_bytes ys) (bytes x) buffer
-          ∙ ap (λ (text : List ℕ). laid 0 text buffer) (sym (push_bytes ys x));
-      place = ap (λ (v : Writer). v.at) writer ∙ ap₂ (λ (m n : ℕ). m + n) w.place (sym (length_bytes x)) ∙ sym (length-append (all_bytes ys) (bytes x))
-          ∙ ap length (sym (push_bytes ys x));
-      legal = run_append (Some s.Opening) ys (x ∷ []) ∙ ap (λ (o : Option State). run_from o (x ∷ [])) w.legal ∙ turned ∙ ap (λ (v : Writer). Some v.state) (sym writer);
-    }
+wrote_one buffer ys d x w fits = record {
+  bytes = grind (arith, common_steps, laid-more, push_bytes);
+  place = grind (arith, common_steps, length_bytes, push_bytes);
+  legal = grind (arith, run_append);
+}
 
 pub wrote_all : (buffer : List ℕ) (xs ys : List Record) (d : Desk) → Wrote buffer ys d → Wrote buffer (ys ++ done_of d xs) (after_puts d xs)
 wrote_all buffer [] ys d w = subst (λ (zs : List Record). Wrote buffer zs d) (sym (append-nil ys)) w
