@@ -1,9 +1,10 @@
 -- What a judge has of a sheet, and the records that led there. Assumes nothing.
-use Rattle.std.proofs.Common.{◌≡◌, ℕ, ◌+◌, ◌-◌, ◌^◌, ◌<◌, ◌≤◌, Bool, true, false, cond, not, ◌&&◌, eqb, ltb, leb, ◌⊎◌, List, [], ◌∷◌, ◌++◌, map, length, get_or, Some, None, Ok, Err, Option, Result, sym, refl, ap, ◌∙◌, subst, subst₂, inl, inr, arith, pow_mono}
+use Rattle.std.proofs.Common.{◌≡◌, ℕ, ◌+◌, ◌-◌, ◌^◌, ◌<◌, ◌≤◌, Bool, true, false, not, ◌&&◌, eqb, ltb, leb, ◌⊎◌, List, [], ◌∷◌, ◌++◌, map, length, get_or, Some, None, Ok, Err, Option, Result, sym, refl, ap, ◌∙◌, subst, subst₂, inl, inr, arith, pow_mono}
 use Rattle.std.specs.List.{flat_map, AllByRecursion}
 use Rattle.std.proofs.ByRecursion.{All-push}
 use Rattle.std.proofs.lemmas.List.{append_assoc, append-nil, flat_map_more, length_push, map_push}
-use Rattle.std.proofs.lemmas.Bool.{cases_Bool, cases_eq, cond-true, cond-false, and_parts, eqb-true, eq-eqb, ne_eqb, ltb-true, lt-ltb, le-ltb, leb-true, cases_lt, both_ways}
+use Rattle.std.proofs.lemmas.Bool.{cases_eq, cond-true, cond-false, and_parts, eqb-true, eq-eqb, ne_eqb, ltb-true, lt-ltb, le-ltb, leb-true, cases_lt, both_ways}
+use Rattle.std.proofs.lemmas.Bool.Decides.{nat_tests}
 use Rattle.masks.specs.Masks.{bit, how_many}
 use Rattle.masks.proofs.Bits.{bit_low}
 use Rattle.host.specs.Refusals.{refuse, answered}
@@ -15,7 +16,6 @@ use Rattle.sheet.specs.declared.record.Head.{Head}
 use Rattle.sheet.specs.declared.record.Record.{Record}
 use Rattle.sheet.specs.declared.record.Record.TheVariants as r
 use Rattle.sheet.specs.declared.record.Step.{Step}
-use Rattle.sheet.specs.declared.record.Step.TheVariants.{Left, Straight, Right}
 use Rattle.sheet.specs.declared.record.Toll.{Toll}
 use Rattle.sheet.specs.declared.state.State.{State}
 use Rattle.sheet.specs.declared.state.State.TheVariants as s
@@ -34,8 +34,7 @@ use Rattle.verdict.proofs.TollLists.{Before, before_true, before_trans, Payable,
 -- a test that did not refuse
 pub not_refused : {A : Type 0} (t : Bool) (x : CardFault) (later : Option CardFault) (a a' : A) → answered (refuse (not t) x later) a ≡ Ok a' →
     (t ≡ true) × (answered later a ≡ Ok a')
-not_refused true x later a a' e = (refl, e)
-not_refused false x later a a' e = absurd (cc)
+not_refused t x later a a' e = grind arith
 
 pub answered-same : {A : Type 0} (a a' : A) → ◌≡◌ {A = Result A CardFault} (Ok a) (Ok a') → a ≡ a'
 answered-same a a' e = cc
@@ -88,27 +87,7 @@ pub record LeadsTo (x : Step) (j k : ℕ) : Type 0 where
   pub to : step_to j k ≡ x
 
 pub stepped_some : (x : Step) (j k : ℕ) → stepped x j ≡ Some k → LeadsTo x j k
-stepped_some Left j k e = elim (cases_eq j 0) [
-  | inl z ↦
-      let wrong : ◌≡◌ {A = Option ℕ} None (Some k) = sym (cond-true (eqb j 0) None (Some (j - 1)) (eq-eqb j 0 z)) ∙ e in
-      absurd (cc)
-  | inr z ↦
-      let right : Some (j - 1) ≡ Some k = sym (cond-false (eqb j 0) None (Some (j - 1)) (ne_eqb j 0 z)) ∙ e in
-      let is : j - 1 ≡ k = cc in
-      record { near = omega arith; to = cond-true (ltb k j) Left (cond (ltb j k) Right Straight) (lt-ltb k j (omega arith)) }
-]
-stepped_some Straight j k e =
-    let is : j ≡ k = cc in
-    record {
-      near = omega arith;
-      to = cond-false (ltb k j) Left (cond (ltb j k) Right Straight) (le-ltb k j (omega arith)) ∙ cond-false (ltb j k) Right Straight (le-ltb j k (omega arith));
-    }
-stepped_some Right j k e =
-    let is : j + 1 ≡ k = cc in
-    record {
-      near = omega arith;
-      to = cond-false (ltb k j) Left (cond (ltb j k) Right Straight) (le-ltb k j (omega arith)) ∙ cond-true (ltb j k) Right Straight (lt-ltb j k (omega arith));
-    }
+stepped_some x j k e = grind (arith, nat_tests)
 
 -- one PE more
 module _ (b : Board) (g : Gathered) (j : ℕ) (valid : Valid b g) (free : g.tolls ≡ []) where
@@ -229,10 +208,7 @@ pub record Advanced (b : Board) (a : State) (g : Gathered) (x : Record) (a' : St
   pub says : said_at b a' g' ≡ said_at b a g ++ x ∷ []
 
 said-with_left : (b : Board) (n left : ℕ) (g : Gathered) → said_at b (with_left n left) g ≡ said b g
-said-with_left b n left g = elim (cases_Bool (ltb 0 left)) [
-  | inl t ↦ ap (λ (a : State). said_at b a g) (cond-true (ltb 0 left) (s.Column n left) (s.Between n) t)
-  | inr t ↦ ap (λ (a : State). said_at b a g) (cond-false (ltb 0 left) (s.Column n left) (s.Between n) t)
-]
+said-with_left b n left g = grind arith
 
 some_same : (a a' : State) → Some a ≡ Some a' → a ≡ a'
 some_same a a' e = cc

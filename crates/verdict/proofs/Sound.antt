@@ -87,8 +87,7 @@ record Passed (b : Board) (m : Meaning) (bs : List ℕ) (a : Accepted) : Type 0 
   is : record { columns = final.columns; tolls = final.tolls } ≡ a
 
 placed-ok : {A : Type 0} (at : ℕ) (o : Result A CardFault) (a : A) → at_place at o ≡ Ok a → o ≡ Ok a
-placed-ok at (Ok x) a e = cc
-placed-ok at (Err x) a e = cc
+placed-ok at o a e = grind arith
 
 passed : (b : Board) (m : Meaning) (bs : List ℕ) (a : Accepted) → Proper b → judged b m bs ≡ Ok a → Passed b m bs a
 passed b m bs a proper e = go (gathered b blank (reading bs)) refl

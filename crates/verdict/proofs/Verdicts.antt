@@ -1,5 +1,5 @@
 -- The two tests of a verdict, and what they say of tolls. Assumes nothing.
-use Rattle.std.proofs.Common.{◌≡◌, ℕ, Bool, true, false, ltb, Ok, Option, refl, ⊎_elim, arith}
+use Rattle.std.proofs.Common.{◌≡◌, ℕ, Bool, false, ltb, Ok, Option, ⊎_elim, arith}
 use Rattle.std.proofs.lemmas.Bool.{cases_lt, not-false, not_from_true, ltb-false, le-ltb}
 use Rattle.masks.specs.Masks.{none}
 use Rattle.masks.proofs.Masks.{mask_empty}
@@ -15,8 +15,7 @@ use Rattle.verdict.specs.Judging.{some_below_worth}
 -- a test that did not refuse
 pub unrefused : {A : Type 0} (t : Bool) (x : CardFault) (later : Option CardFault) (a a' : A) → answered (refuse t x later) a ≡ Ok a' →
     (t ≡ false) × (answered later a ≡ Ok a')
-unrefused true x later a a' e = absurd (cc)
-unrefused false x later a a' e = (refl, e)
+unrefused t x later a a' e = grind arith
 
 -- some least price is below the worth exactly where some column is
 module _ (c : Card) (m : Meaning) (toll : Tolls) (within : Within c) where
