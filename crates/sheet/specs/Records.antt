@@ -20,21 +20,16 @@ code k.Right = 5
 code k.Toll = 6
 code k.End = 7
 
-abbrev pub kinds : List Kind
-kinds = k.Head ∷ k.Start ∷ k.Left ∷ k.Straight ∷ k.Right ∷ k.Toll ∷ k.End ∷ []
-
+-- the kind of a byte, if it is one
 abbrev pub kind_of : ℕ → Option Kind
-kind_of b = find (λ kind. code kind == b) kinds
+kind_of b = find (λ kind. code kind == b) (k.Head ∷ k.Start ∷ k.Left ∷ k.Straight ∷ k.Right ∷ k.Toll ∷ k.End ∷ [])
 
 -- how many bytes follow a kind
 abbrev pub body_length : Kind → ℕ
 body_length k.Head = 10
 body_length k.Start = 1
-body_length k.Left = 0
-body_length k.Straight = 0
-body_length k.Right = 0
 body_length k.Toll = 6
-body_length k.End = 0
+body_length _ = 0
 
 -- the record that bytes begin with, at a place: its kind and its body
 abbrev pub record_from : ℕ → List ℕ → Result (Kind × List ℕ) RecordFault
@@ -62,9 +57,8 @@ kind_in r.End = k.End
 abbrev pub body : Record → List ℕ
 body (r.Head h) = h.rows ∷ h.columns ∷ to_be_bytes w64 h.standing
 body (r.Start j) = j ∷ []
-body (r.Step s) = []
 body (r.Toll t) = t.row ∷ t.column ∷ to_be_bytes w32 t.amount
-body r.End = []
+body _ = []
 
 -- the bytes of a record, and how many they are
 abbrev pub bytes : Record → List ℕ
