@@ -150,13 +150,15 @@ impl Record {
         let kind = u8::from(Kind::from(self));
         match self {
             Record::Head(head) => {
-                let [a, b, c, d, e, f, g, h] = head.standing.to_be_bytes();
-                out.copy_from_slice(&[kind, head.rows, head.columns, a, b, c, d, e, f, g, h]);
+                let (front, standing) = out.split_at_mut(3);
+                front.copy_from_slice(&[kind, head.rows, head.columns]);
+                standing.copy_from_slice(&head.standing.to_be_bytes());
             }
             Record::Start(column) => out.copy_from_slice(&[kind, column]),
             Record::Toll(toll) => {
-                let [a, b, c, d] = toll.amount.to_be_bytes();
-                out.copy_from_slice(&[kind, toll.row, toll.column, a, b, c, d]);
+                let (front, amount) = out.split_at_mut(3);
+                front.copy_from_slice(&[kind, toll.row, toll.column]);
+                amount.copy_from_slice(&toll.amount.to_be_bytes());
             }
             Record::Step(_) | Record::End => out.copy_from_slice(&[kind]),
         }
