@@ -5,6 +5,7 @@ ghost use Rattle.sheet.specs.Records.{code, kind_of, body_length, made, kind_in,
 
 use records::{NoSuchKind, RecordKind};
 
+/// The kinds of record, by their bytes.
 #[derive(Clone, Copy, PartialEq, Eq, Debug)]
 pub enum Kind {
     Head = 0x01,
@@ -40,6 +41,7 @@ pub struct Toll {
     pub amount: u32,
 }
 
+/// What one record of a sheet says.
 #[derive(Clone, Copy, PartialEq, Eq, Debug)]
 pub enum Record {
     Head(Head),

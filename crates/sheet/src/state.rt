@@ -4,6 +4,7 @@ ghost use Rattle.sheet.specs.Turns.{with_left, turn};
 
 use crate::record::Record;
 
+/// What of a sheet has come.
 #[derive(Clone, Copy, PartialEq, Eq, Debug)]
 pub enum State {
     /// nothing has come

@@ -50,7 +50,7 @@ pub struct Writer {
 }
 
 impl Writer {
-    /// Writes the head of a sheet at the front of a buffer; the starts, steps, tolls and the end are then put behind it.
+    /// Writes the head of a sheet at the front of a buffer, behind which starts, steps, tolls and the end are put.
     pub fn open(rows: u8, columns: u8, standing: u64, out: &mut [u8]) -> Result<Writer, Refusal>
         ensures answer { result ≡ opening_answer rows columns standing (length out.old) }
         ensures buffer { out.new ≡ opening_buffer rows columns standing out.old }
@@ -75,8 +75,7 @@ impl Writer {
         Ok(writer)
     }
 
-    /// Writes a record into the same buffer behind the last one, and answers the length of the sheet so far. A refused call changes
-    /// neither the writer nor the buffer.
+    /// Writes a record behind the last one and answers the length of the sheet so far; a refused call changes nothing.
     pub fn put(&mut self, next: Record, out: &mut [u8]) -> Result<usize, Refusal>
         ensures answer { result ≡ put_answer self.old next (length out.old) }
         ensures writer { self.new ≡ writer_after self.old next (length out.old) }

@@ -43,8 +43,8 @@ same_head b h = h.rows == b.rows && (h.columns == b.columns && h.standing == b.s
 abbrev pub with_pe : Board → Gathered → ℕ → Gathered
 with_pe b g j =
     cond (length (g.column ++ j ∷ []) == standing (card b))
-    (record { columns = g.columns ++ (g.column ++ j ∷ []) ∷ []; column = []; tolls = g.tolls })
-    (record { columns = g.columns; column = g.column ++ j ∷ []; tolls = g.tolls })
+    (record g { columns = g.columns ++ (g.column ++ j ∷ []) ∷ []; column = [] })
+    (record g { column = g.column ++ j ∷ [] })
 
 -- it is right of the preceding column's PE in that row
 abbrev pub right_of_last : Gathered → ℕ → Bool
@@ -74,7 +74,7 @@ abbrev pub before : Toll → Toll → Bool
 before d e = nat_lt d.row e.row || (d.row == e.row && nat_lt d.column e.column)
 
 abbrev pub with_toll : Gathered → Toll → Gathered
-with_toll g t = record { columns = g.columns; column = g.column; tolls = g.tolls ++ t ∷ [] }
+with_toll g t = record g { tolls = g.tolls ++ t ∷ [] }
 
 -- a toll is on a usable PE of a standing row, and is 1 to the worth
 abbrev pub tollable : Board → Toll → Bool
