@@ -1,9 +1,10 @@
 -- The sheet of a plan is accepted. Assumes nothing.
-use Rattle.std.proofs.Common.{◌≡◌, ℕ, ◌+◌, ◌-◌, ◌*◌, ◌<◌, Bool, true, false, cond, not, ◌&&◌, eqb, ltb, List, [], ◌∷◌, ◌++◌, map, length, get_or, Some, None, Ok, Option, sym, refl, ap, ◌∙◌, subst, arith}
+use Rattle.std.proofs.Common.{◌≡◌, ℕ, ◌+◌, ◌-◌, ◌*◌, ◌<◌, Bool, true, false, cond, not, eqb, ltb, List, [], ◌∷◌, ◌++◌, map, length, get_or, Some, None, Ok, Option, sym, refl, ap, ◌∙◌, subst, arith}
 use Rattle.std.specs.List.{flat_map, AllByRecursion}
 use Rattle.std.proofs.ByRecursion.{All-push}
 use Rattle.std.proofs.lemmas.List.{append_assoc, append-nil, length_push, length-append, get_or_at, get_or_append_left}
-use Rattle.std.proofs.lemmas.Bool.{cond-true, cond-false, and_from, eq-eqb, ne_eqb, lt-ltb, le-leb, not_from_true}
+use Rattle.std.proofs.lemmas.Bool.{cond-true, cond-false, eq-eqb, ne_eqb, lt-ltb, not_from_true}
+use Rattle.std.proofs.lemmas.Bool.Decides.{nat_tests}
 use Rattle.masks.specs.Masks.{bit}
 use Rattle.host.specs.Refusals.{refuse, answered}
 use Rattle.tariff.specs.Meaning.{Meaning}
@@ -24,7 +25,7 @@ use Rattle.sheet.proofs.Runs.{reads_from}
 use Rattle.verdict.specs.declared.fault.CardFault.{CardFault}
 use Rattle.verdict.specs.declared.fault.CardFault.TheVariants.{WrongSum}
 use Rattle.verdict.specs.Boards.{Board, card, Proper}
-use Rattle.verdict.specs.Judging.{Gathered, blank, may_follow, same_head, with_pe, right_of_last, pe_checked, step_checked, before, with_toll, tollable, payable, toll_fault, checked, at_place, onward, gathered, toll_of, adds_up, settled, judged}
+use Rattle.verdict.specs.Judging.{Gathered, blank, with_pe, pe_checked, step_checked, before, with_toll, toll_fault, checked, at_place, onward, gathered, toll_of, adds_up, settled, judged}
 use Rattle.verdict.specs.Sheets.{step_to, steps, column_records, head_of, records, toll_list, sheet_of}
 use Rattle.verdict.specs.Theorems.{LeftToRight}
 use Rattle.verdict.proofs.Boards.{ascending, narrow, within}
@@ -66,12 +67,10 @@ module _ (b : Board) where
   pe_passes : (proper : Proper b) (g : Gathered) (j : ℕ) → length g.column < standing (card b) → Usable (card b) (row (card b) (length g.column)) j →
       After (RightIn (length g.column)) g.columns j → pe_checked b g j ≡ Ok (with_pe b g j)
   pe_passes proper g j room use' right =
-      let c = card b in
       let k = length g.column in
-      passes (ltb k (standing c) && ltb j b.columns) _ _ (with_pe b g j)
-      (and_from _ _ (lt-ltb k (standing c) room) (lt-ltb j b.columns (proper.inside (row c k) j use')))
-      ∙ passes (b.usable (row c k) j) _ _ (with_pe b g j) use'
-      ∙ passes (right_of_last g j) _ _ (with_pe b g j) (true_after (λ a i. ltb (get_or a k 0) i) (RightIn k) (λ a i. lt-ltb (get_or a k 0) i) g.columns j right)
+      let inside = proper.inside (row (card b) k) j use' in
+      let last = true_after (λ a i. ltb (get_or a k 0) i) (RightIn k) (λ a i. lt-ltb (get_or a k 0) i) g.columns j right in
+      grind (arith, nat_tests)
 
   -- a column
   module _ (proper : Proper b) (done : List (List ℕ)) (a : List ℕ) (cs : AllByRecursion (Column (card b)) done) (w : Column (card b) a) (left : After LeftOf done a) where
@@ -151,10 +150,10 @@ module _ (b : Board) where
   toll_passes : Proper b → (g : Gathered) (t : Toll) → Payable (card b) t → After Before g.tolls t →
       answered (toll_fault b g t) (with_toll g t) ≡ Ok (with_toll g t)
   toll_passes proper g t p after =
-      passes (tollable b t) _ _ (with_toll g t)
-      (and_from _ _ (stands_in t.row p.in_row) (and_from _ _ (lt-ltb t.column b.columns (proper.inside t.row t.column p.usable)) p.usable))
-      ∙ passes (may_follow before g.tolls t) _ _ (with_toll g t) (true_after before Before true_before g.tolls t after)
-      ∙ passes (payable t) _ _ (with_toll g t) (and_from _ _ (le-leb 1 t.amount p.some) (le-leb t.amount worth p.limit))
+      let inside = proper.inside t.row t.column p.usable in
+      let stands = stands_in t.row p.in_row in
+      let last = true_after before Before true_before g.tolls t after in
+      grind (arith, nat_tests)
 
   tolls_lead : Proper b → (f : List (List ℕ)) (ts ds : List Toll) → AllByRecursion (Payable (card b)) ts → Pairwise Before (ds ++ ts) →
       Leads (having f ds) (map r.Toll ts) (having f (ds ++ ts))
@@ -168,9 +167,7 @@ module _ (b : Board) where
       (subst (λ (x : List Toll). Leads (having f (ds ++ t ∷ [])) (map r.Toll ts) (having f x)) regroup tail)
 
   head_passes : checked b blank (head_of b) ≡ Ok blank
-  head_passes =
-      passes (same_head b (record { rows = b.rows; columns = b.columns; standing = b.stand })) _ _ blank
-      (and_from _ _ (eq-eqb b.rows b.rows refl) (and_from _ _ (eq-eqb b.columns b.columns refl) (eq-eqb b.stand b.stand refl)))
+  head_passes = grind (arith, nat_tests)
 
   -- columns and tolls are gathered from their records
   reaches : Proper b → (f : List (List ℕ)) (ts : List Toll) → AllByRecursion (Column (card b)) f → LeftToRight f → Listed (card b) ts →
