@@ -1,9 +1,9 @@
 -- An accepted sheet is the sheet of a plan. Assumes nothing.
-use Rattle.std.proofs.Common.{◌≡◌, ℕ, ◌+◌, ◌*◌, true, false, List, [], ◌∷◌, ◌++◌, length, Some, None, Ok, Err, Option, Result, sym, refl, ap, ◌∙◌, subst, ap₂, inl, arith}
+use Rattle.std.proofs.Common.{◌≡◌, ℕ, ◌+◌, ◌*◌, true, false, List, [], ◌∷◌, ◌++◌, length, Some, Ok, Err, Option, Result, sym, refl, ap, ◌∙◌, subst, ap₂, inl, arith}
 use Rattle.std.proofs.lemmas.List.{append_assoc}
 use Rattle.std.proofs.lemmas.Bool.{cond-false, eqb-true}
-use Rattle.host.specs.Refusals.{answered}
 use Rattle.tariff.specs.Meaning.{Meaning}
+use Rattle.plans.specs.Columns.{Card}
 use Rattle.plans.specs.Families.{LeftOf, Apart, Crosses, total, total_charge}
 use Rattle.plans.specs.Tolls.{Plan, worth, tolls_on}
 use Rattle.plans.proofs.Places.{pairwise_weaker, sides_uncrossed}
@@ -18,18 +18,17 @@ use Rattle.sheet.specs.Runs.{run_from, run, placed}
 use Rattle.sheet.proofs.Runs.{lost_from}
 use Rattle.sheet.proofs.Turns.{InTurn, turns}
 use Rattle.verdict.specs.declared.fault.CardFault.{CardFault}
-use Rattle.verdict.specs.declared.fault.CardFault.TheVariants.{Underpriced as TooCheap, WrongSum}
 use Rattle.verdict.specs.declared.fault.JudgeFault.{JudgeFault}
 use Rattle.verdict.specs.declared.fault.JudgeFault.TheVariants.{Card as OfCard}
 use Rattle.verdict.specs.Boards.{Board, card, Proper}
-use Rattle.verdict.specs.Judging.{Gathered, blank, checked, at_place, onward, gathered, toll_of, some_below_worth, adds_up, Accepted, verdict_fault, settled, judged}
+use Rattle.verdict.specs.Judging.{Gathered, blank, checked, at_place, onward, gathered, toll_of, some_below_worth, adds_up, Accepted, settled, judged}
 use Rattle.verdict.specs.Sheets.{toll_list, records, sheet_of}
 use Rattle.verdict.specs.Theorems.{Bytes, LeftToRight}
-use Rattle.verdict.proofs.Advancing.{Valid, Linked, said, said_at, not_refused, answered-same, advance, finish}
+use Rattle.verdict.proofs.Advancing.{Valid, Linked, said, said_at, advance, finish}
 use Rattle.verdict.proofs.Boards.{ascending, narrow, within}
 use Rattle.verdict.proofs.Placing.{left_apart}
 use Rattle.verdict.proofs.TollLists.{listed_again, listed_allowed, down_sum}
-use Rattle.verdict.proofs.Verdicts.{unrefused, none-cheap}
+use Rattle.verdict.proofs.Verdicts.{none-cheap}
 
 -- what a reading was, of which something is gathered in the end: records in turn that say it
 record Closed (b : Board) (a : State) (at : ℕ) (g : Gathered) (q : Reading) (final : Gathered) : Type 0 where
@@ -86,8 +85,9 @@ record Passed (b : Board) (m : Meaning) (bs : List ℕ) (a : Accepted) : Type 0 
   sum : adds_up (card b) m final ≡ true
   is : record { columns = final.columns; tolls = final.tolls } ≡ a
 
-placed-ok : {A : Type 0} (at : ℕ) (o : Result A CardFault) (a : A) → at_place at o ≡ Ok a → o ≡ Ok a
-placed-ok at o a e = grind arith
+settled-ok : (c : Card) (m : Meaning) (p : Gathered × ℕ) (a : Accepted) → settled c m (Ok p) ≡ Ok a →
+    (some_below_worth c m (toll_of p.0.tolls) ≡ false) × (adds_up c m p.0 ≡ true) × (record { columns = p.0.columns; tolls = p.0.tolls } ≡ a)
+settled-ok c m p a e = grind arith
 
 passed : (b : Board) (m : Meaning) (bs : List ℕ) (a : Accepted) → Proper b → judged b m bs ≡ Ok a → Passed b m bs a
 passed b m bs a proper e = go (gathered b blank (reading bs)) refl
@@ -96,17 +96,13 @@ passed b m bs a proper e = go (gathered b blank (reading bs)) refl
     go (Err x) q =
         let wrong : Err x ≡ Ok a = ap (settled (card b) m) (sym q) ∙ e in absurd (cc)
     go (Ok p) q =
-        let g = p.0 in
-        let says : Accepted = record { columns = g.columns; tolls = g.tolls } in
-        let end = placed-ok p.1 (answered (verdict_fault (card b) m g) says) a (ap (settled (card b) m) (sym q) ∙ e) in
-        let p₁ = unrefused (some_below_worth (card b) m (toll_of g.tolls)) TooCheap _ says a end in
-        let p₂ = not_refused (adds_up (card b) m g) WrongSum None says a p₁.1 in
+        let s = settled-ok (card b) m p a (ap (settled (card b) m) (sym q) ∙ e) in
         record {
-          final = g;
-          closed = sound b proper (reading bs) Opening 0 blank g p.1 (turns Opening 0 bs) refl q;
-          price = p₁.0;
-          sum = p₂.0;
-          is = answered-same says a p₂.1;
+          final = p.0;
+          closed = sound b proper (reading bs) Opening 0 blank p.0 p.1 (turns Opening 0 bs) refl q;
+          price = s.0;
+          sum = s.1;
+          is = s.2;
         }
 
 said_all : (b : Board) (g : Gathered) → g.column ≡ [] → said b g ++ r.End ∷ [] ≡ records b g.columns g.tolls
