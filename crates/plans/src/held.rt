@@ -9,6 +9,7 @@ pub struct HeldRow {
 }
 
 /// A family: its PEs in each standing row, going down. What lies past its rows and its number of columns has no meaning.
+// Arrays by value with a number beside them, since a book keeps its plan in fixed memory.
 #[derive(Clone, Copy)]
 pub struct HeldFamily {
     pub rows: [HeldRow; 64],

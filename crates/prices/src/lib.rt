@@ -11,6 +11,7 @@ use tariff::Tariff;
 
 mod least;
 
+// Two tables by row, not one of pairs: the usable PEs are the map's, the tolls a sheet's.
 /// Whether some logical column is priced below the worth: bit r of `standing` says that row r stands, bit j of `usable[r]` that the
 /// PE in row r and column j is usable, and `tolls[r][j]` is its toll.
 pub fn some_column_underpriced<T: Tariff>(
