@@ -1,5 +1,5 @@
-pub mod Numbers
 pub mod Bodies
+pub mod Places
 pub mod Nexts
 pub mod Readings
 pub mod Runs

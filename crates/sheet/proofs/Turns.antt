@@ -1,8 +1,7 @@
 -- In a reading of bytes each record is in turn. Assumes nothing.
 use Rattle.std.proofs.Common.{◌≡◌, ℕ, zero, suc, ◌+◌, ◌<◌, false, List, length, drop, Some, Ok, Err, Result, sym, refl, ap, ◌∙◌, subst, inl, inr, arith}
-use Rattle.std.proofs.lemmas.Bool.{cases_Bool}
+use Rattle.std.proofs.lemmas.Bool.{cases_Bool, cond-true, cond-false}
 use Rattle.sheet.specs.declared.fault.SheetFault.{SheetFault}
-use Rattle.sheet.specs.declared.reader.Reader.{Reader}
 use Rattle.sheet.specs.declared.record.Record.{Record}
 use Rattle.sheet.specs.declared.record.Record.TheVariants.{End}
 use Rattle.sheet.specs.declared.state.State.{State}
@@ -11,7 +10,7 @@ use Rattle.sheet.specs.Records.{size, is_end}
 use Rattle.sheet.specs.Readings.{next, Reading, stops, ends, then, reading_from}
 use Rattle.sheet.specs.Turns.{turn}
 use Rattle.sheet.proofs.Nexts.{took}
-use Rattle.sheet.proofs.Readings.{fewer, reading_stops, reading_ends, reading_goes}
+use Rattle.sheet.proofs.Readings.{fewer, reading_stops, reading_took}
 use Rattle.sheet.proofs.Runs.{only_end, end_ends}
 
 -- the records of a reading are in turn from a state on, and stand one behind the other from a place on
@@ -20,29 +19,24 @@ InTurn s at (stops x) = Unit {0}
 InTurn s at (ends p) = (p ≡ at) × (turn s End ≡ Some Ended)
 InTurn s at (then p x more) = (p ≡ at) × (is_end x ≡ false) × ((s' : State) × (turn s x ≡ Some s') × InTurn s' (at + size x) more)
 
-by_turns : (n : ℕ) (rd : Reader) (bs : List ℕ) → length bs < n → InTurn rd.state rd.at (reading_from rd bs)
-by_turns zero rd bs l = absurd (omega arith)
-by_turns (suc n) rd bs l = go (next rd bs) refl (λ after rest. by_turns n after rest)
+by_turns : (n : ℕ) (s : State) (at : ℕ) (bs : List ℕ) → length bs < n → InTurn s at (reading_from s at bs)
+by_turns zero s at bs l = absurd (omega arith)
+by_turns (suc n) s at bs l = go (next s at bs) refl (λ s' at' rest. by_turns n s' at' rest)
   where
-    go : (o : Result (Record × Reader) SheetFault) → next rd bs ≡ o →
-        ((after : Reader) (rest : List ℕ) → length rest < n → InTurn after.state after.at (reading_from after rest)) →
-        InTurn rd.state rd.at (reading_from rd bs)
-    go (Err x) e more = subst (InTurn rd.state rd.at) (sym (reading_stops rd bs x e)) tt
+    go : (o : Result (Record × State) SheetFault) → next s at bs ≡ o →
+        ((s' : State) (at' : ℕ) (rest : List ℕ) → length rest < n → InTurn s' at' (reading_from s' at' rest)) →
+        InTurn s at (reading_from s at bs)
+    go (Err x) e more = subst (InTurn s at) (sym (reading_stops s at bs x e)) tt
     go (Ok p) e more =
-        let x = p.0 in
-        let after = p.1 in
-        let t = took rd bs x after e in
-        elim (cases_Bool (is_end x)) [
+        let t = took s at bs p e in
+        elim (cases_Bool (is_end p.0)) [
           | inl end ↦
-              let is : turn rd.state End ≡ Some Ended =
-              ap (turn rd.state) (sym (only_end x end)) ∙ t.turned ∙ ap Some (end_ends rd.state after.state x end t.turned) in
-              subst (InTurn rd.state rd.at) (sym (reading_ends rd bs x after e end)) (refl, is)
+              let is : turn s End ≡ Some Ended = ap (turn s) (sym (only_end p.0 end)) ∙ t.turned ∙ ap Some (end_ends s p.1 p.0 end t.turned) in
+              subst (InTurn s at) (sym (reading_took s at bs p e ∙ cond-true _ _ _ end)) (refl, is)
           | inr on ↦
-              let rest : InTurn after.state (rd.at + size x) (reading_from after (drop (size x) bs)) =
-              subst (λ (m : ℕ). InTurn after.state m (reading_from after (drop (size x) bs))) t.behind
-              (more after (drop (size x) bs) (omega (arith, fewer rd bs x after e))) in
-              subst (InTurn rd.state rd.at) (sym (reading_goes rd bs x after e on)) (refl, on, (after.state, t.turned, rest))
+              let rest = more p.1 (at + size p.0) (drop (size p.0) bs) (omega (arith, fewer s at bs p e)) in
+              subst (InTurn s at) (sym (reading_took s at bs p e ∙ cond-false _ _ _ on)) (refl, on, (p.1, t.turned, rest))
         ]
 
-pub turns : (rd : Reader) (bs : List ℕ) → InTurn rd.state rd.at (reading_from rd bs)
-turns rd bs = by_turns (suc (length bs)) rd bs (omega arith)
+pub turns : (s : State) (at : ℕ) (bs : List ℕ) → InTurn s at (reading_from s at bs)
+turns s at bs = by_turns (suc (length bs)) s at bs (omega arith)

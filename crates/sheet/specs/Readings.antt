@@ -1,6 +1,7 @@
 -- A sheet, whatever the card: records, each in its turn, up to the end record or the first fault. Assumes nothing.
 use Rattle.std.specs.Prelude.{ℕ, zero, suc, ◌+◌, cond, ◌&&◌, List, [], ◌∷◌, length, drop, Some, None, Ok, Err, Option, Result, nat_lt}
-use Rattle.sheet.specs.declared.fault.RecordFault.{RecordFault}
+use Rattle.std.specs.Borrow.{Bor}
+use Rattle.records.specs.declared.RecordFault.{RecordFault}
 use Rattle.sheet.specs.declared.fault.SheetFault.{SheetFault}
 use Rattle.sheet.specs.declared.fault.SheetFault.TheVariants.{Record as InRecord, OutOfTurn, NoEnd, AfterEnd}
 use Rattle.sheet.specs.declared.reader.Reader.{Reader}
@@ -11,32 +12,35 @@ use Rattle.sheet.specs.declared.state.State.TheVariants.{Opening}
 use Rattle.sheet.specs.Records.{record_from, made, size, is_end}
 use Rattle.sheet.specs.Turns.{turn}
 
-abbrev pub new_reader : Reader
-new_reader = record { state = Opening; at = 0 }
+-- a record that was found at a place, with the state behind it; so many bytes are left from the record on
+abbrev pub in_turn : ℕ → ℕ → Record → Option State → Result (Record × State) SheetFault
+in_turn at left x None = Err (OutOfTurn at)
+in_turn at left x (Some s) = cond (is_end x && nat_lt (size x) left) (Err (AfterEnd (at + size x))) (Ok (x, s))
 
--- a record that was found, with the reader behind it; so many bytes are left from the record on
-abbrev pub in_turn : Reader → ℕ → Record → Option State → Result (Record × Reader) SheetFault
-in_turn r left x None = Err (OutOfTurn r.at)
-in_turn r left x (Some s) =
-    cond (is_end x && nat_lt (size x) left) (Err (AfterEnd (r.at + size x))) (Ok (x, record { state = s; at = r.at + size x }))
+abbrev pub found : State → ℕ → ℕ → Result (Kind × List ℕ) RecordFault → Result (Record × State) SheetFault
+found s at left (Err x) = Err (InRecord x)
+found s at left (Ok p) = in_turn at left (made p.0 p.1) (turn s (made p.0 p.1))
 
-abbrev pub found : Reader → ℕ → Result (Kind × List ℕ) RecordFault → Result (Record × Reader) SheetFault
-found r left (Err x) = Err (InRecord x)
-found r left (Ok p) = in_turn r left (made p.0 p.1) (turn r.state (made p.0 p.1))
+-- what comes next, in a state and at a place, in the bytes that are left
+abbrev pub next : State → ℕ → List ℕ → Result (Record × State) SheetFault
+next s at [] = Err (NoEnd at)
+next s at (b ∷ bs) = found s at (length (b ∷ bs)) (record_from at (b ∷ bs))
 
--- what a reader takes from the bytes that are left
-abbrev pub next : Reader → List ℕ → Result (Record × Reader) SheetFault
-next r [] = Err (NoEnd r.at)
-next r (b ∷ bs) = found r (length (b ∷ bs)) (record_from r.at (b ∷ bs))
+abbrev pub new_reader : Bor (List ℕ) → Reader
+new_reader sheet = record { sheet = sheet; state = Opening; at = 0 }
 
-abbrev pub answer_of : Result (Record × Reader) SheetFault → Result Record SheetFault
+-- what a reader takes
+abbrev pub taken : Reader → Result (Record × State) SheetFault
+taken r = next r.state r.at (drop r.at r.sheet.now)
+
+abbrev pub answer_of : Result (Record × State) SheetFault → Result Record SheetFault
 answer_of (Ok p) = Ok p.0
 answer_of (Err x) = Err x
 
 -- a fault leaves the reader where it was
-abbrev pub reader_after : Reader → Result (Record × Reader) SheetFault → Reader
-reader_after before (Ok p) = p.1
-reader_after before (Err x) = before
+abbrev pub reader_after : Reader → Result (Record × State) SheetFault → Reader
+reader_after r (Ok p) = record r { state = p.1; at = r.at + size p.0 }
+reader_after r (Err x) = r
 
 -- the records of a sheet, each with the place of its kind, up to the place of the end record or a fault
 pub data Reading : Type 0 where
@@ -45,17 +49,17 @@ pub data Reading : Type 0 where
   then : ℕ → Record → Reading → Reading
 
 -- what a record is followed by
-abbrev pub read_on : ℕ → (Reader → List ℕ → Reading) → List ℕ → Result (Record × Reader) SheetFault → Reading
+abbrev pub read_on : ℕ → (State → ℕ → List ℕ → Reading) → List ℕ → Result (Record × State) SheetFault → Reading
 read_on at more bs (Err x) = stops x
-read_on at more bs (Ok p) = cond (is_end p.0) (ends at) (then at p.0 (more p.1 (drop (size p.0) bs)))
+read_on at more bs (Ok p) = cond (is_end p.0) (ends at) (then at p.0 (more p.1 (at + size p.0) (drop (size p.0) bs)))
 
 -- at most n records (each takes one byte or more)
-unfoldable pub reading_by : ℕ → Reader → List ℕ → Reading
-reading_by zero r bs = stops (NoEnd r.at)
-reading_by (suc n) r bs = read_on r.at (reading_by n) bs (next r bs)
+unfoldable pub reading_by : ℕ → State → ℕ → List ℕ → Reading
+reading_by zero s at bs = stops (NoEnd at)
+reading_by (suc n) s at bs = read_on at (reading_by n) bs (next s at bs)
 
-abbrev pub reading_from : Reader → List ℕ → Reading
-reading_from r bs = reading_by (suc (length bs)) r bs
+abbrev pub reading_from : State → ℕ → List ℕ → Reading
+reading_from s at bs = reading_by (suc (length bs)) s at bs
 
 abbrev pub reading : List ℕ → Reading
-reading bs = reading_from new_reader bs
+reading bs = reading_from Opening 0 bs

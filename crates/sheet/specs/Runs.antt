@@ -28,11 +28,10 @@ placed at (x ∷ xs) = cond (is_end x) (ends at) (then at x (placed (at + size x
 
 -- the numbers of a record fit its bytes
 abbrev pub Fits : Record → Type 0
-Fits (r.Head h) = (h.rows < 256) × (h.columns < 256) × (h.standing < 256 ^ 8)
+Fits (r.Head h) = (h.rows < 256) × (h.columns < 256) × (h.standing < 2 ^ 64)
 Fits (r.Start j) = j < 256
-Fits (r.Step s) = Unit {0}
-Fits (r.Toll t) = (t.row < 256) × (t.column < 256) × (t.amount < 256 ^ 4)
-Fits r.End = Unit {0}
+Fits (r.Toll t) = (t.row < 256) × (t.column < 256) × (t.amount < 2 ^ 32)
+Fits _ = Unit {0}
 
 -- a writer and the buffer that each of its calls is given
 pub record Desk : Type 0 where

@@ -1,5 +1,5 @@
 -- What may come next depends on where the sheet is. Assumes nothing.
-use Rattle.std.specs.Prelude.{ℕ, ◌-◌, Bool, true, false, cond, Some, None, Option, nat_lt}
+use Rattle.std.specs.Prelude.{ℕ, ◌-◌, cond, Some, None, Option, nat_lt}
 use Rattle.masks.specs.Masks.{bit, how_many}
 use Rattle.sheet.specs.declared.record.Record.{Record}
 use Rattle.sheet.specs.declared.record.Record.TheVariants.{Head, Start, Step, Toll, End}
@@ -14,36 +14,10 @@ with_left standing left = cond (nat_lt 0 left) (Column standing left) (Between s
 -- a toll or the end; after a toll a toll or the end
 abbrev pub turn : State → Record → Option State
 turn Opening (Head h) = Some (Between (how_many (bit h.standing)))
-turn Opening (Start j) = None
-turn Opening (Step s) = None
-turn Opening (Toll t) = None
-turn Opening End = None
-turn (Between n) (Head h) = None
 turn (Between n) (Start j) = Some (with_left n (n - 1))
-turn (Between n) (Step s) = None
-turn (Between n) (Toll t) = Some Tolls
-turn (Between n) End = Some Ended
-turn (Column n left) (Head h) = None
-turn (Column n left) (Start j) = None
 turn (Column n left) (Step s) = Some (with_left n (left - 1))
-turn (Column n left) (Toll t) = None
-turn (Column n left) End = None
-turn Tolls (Head h) = None
-turn Tolls (Start j) = None
-turn Tolls (Step s) = None
+turn (Between n) (Toll t) = Some Tolls
 turn Tolls (Toll t) = Some Tolls
+turn (Between n) End = Some Ended
 turn Tolls End = Some Ended
-turn Ended (Head h) = None
-turn Ended (Start j) = None
-turn Ended (Step s) = None
-turn Ended (Toll t) = None
-turn Ended End = None
-
-abbrev pub taken : Option State → Bool
-taken (Some s) = true
-taken None = false
-
--- one out of turn changes nothing
-abbrev pub state_after : State → Option State → State
-state_after before (Some s) = s
-state_after before None = before
+turn _ _ = None

@@ -1,5 +1,5 @@
 -- What the calls on a writer answer, and what they leave. Assumes nothing.
-use Rattle.std.specs.Prelude.{ℕ, ◌+◌, Bool, not, ◌&&◌, List, ◌++◌, length, take, drop, None, Option, Result, ◌==◌, nat_lt}
+use Rattle.std.specs.Prelude.{ℕ, ◌+◌, Bool, not, ◌&&◌, List, ◌++◌, length, take, drop, None, is_none, unwrap_or, Option, Result, ◌==◌, nat_lt}
 use Rattle.masks.specs.Masks.{bit, none}
 use Rattle.host.specs.Refusals.{refuse, answered, unless, number as card_number}
 use Rattle.host.specs.Sizes.{fits}
@@ -11,7 +11,7 @@ use Rattle.sheet.specs.declared.writer.Refusal.{Refusal}
 use Rattle.sheet.specs.declared.writer.Refusal.TheVariants.{Card, NoRow, OutOfTurn, ShortBuffer}
 use Rattle.sheet.specs.declared.writer.Writer.{Writer}
 use Rattle.sheet.specs.Records.{bytes, size}
-use Rattle.sheet.specs.Turns.{turn, taken, state_after}
+use Rattle.sheet.specs.Turns.{turn}
 
 abbrev pub number : Refusal → ℕ
 number (Card x) = card_number x
@@ -25,14 +25,14 @@ laid at text buffer = take at buffer ++ (text ++ drop (at + length text) buffer)
 
 -- a record is refused where it is out of turn, and then where there is no room for it
 abbrev pub put_refusal : Writer → Record → ℕ → Option Refusal
-put_refusal w x room = refuse (not (taken (turn w.state x))) OutOfTurn (refuse (nat_lt room (w.at + size x)) ShortBuffer None)
+put_refusal w x room = refuse (is_none (turn w.state x)) OutOfTurn (refuse (nat_lt room (w.at + size x)) ShortBuffer None)
 
 -- the length of the sheet so far
 abbrev pub put_answer : Writer → Record → ℕ → Result ℕ Refusal
 put_answer w x room = answered (put_refusal w x room) (w.at + size x)
 
 abbrev pub put_done : Writer → Record → Writer
-put_done w x = record { state = state_after w.state (turn w.state x); at = w.at + size x }
+put_done w x = record { state = unwrap_or (turn w.state x) w.state; at = w.at + size x }
 
 abbrev pub writer_after : Writer → Record → ℕ → Writer
 writer_after w x room = unless (put_refusal w x room) w (put_done w x)

@@ -3,14 +3,7 @@ ghost use Rattle.std.specs.Prelude.{◌≡◌};
 ghost use Rattle.sheet.specs.Faults.{number, place};
 ghost use Rattle.sheet.specs.declared.fault.SheetFault.TheVariants.{Record};
 
-/// What is wrong with a record, and the place of its kind.
-#[derive(Clone, Copy, PartialEq, Debug)]
-pub enum RecordFault {
-    /// a kind that there is not
-    UnknownKind { at: usize },
-    /// a body that the sheet's end cuts short
-    CutShort { at: usize },
-}
+use records::RecordFault;
 
 /// What is wrong with a sheet, whatever the card.
 #[derive(Clone, Copy, PartialEq, Debug)]
@@ -38,8 +31,7 @@ impl From<SheetFault> for u8 {
 
     fn from(x: SheetFault) -> u8 {
         match x {
-            SheetFault::Record(RecordFault::UnknownKind { at: _ }) => 7,
-            SheetFault::Record(RecordFault::CutShort { at: _ }) => 8,
+            SheetFault::Record(y) => u8::from(y),
             SheetFault::OutOfTurn { at: _ } => 9,
             SheetFault::NoEnd { at: _ } => 10,
             SheetFault::AfterEnd { at: _ } => 11,
@@ -53,8 +45,7 @@ impl SheetFault {
         ensures { result ≡ place self }
     {
         match self {
-            SheetFault::Record(RecordFault::UnknownKind { at } | RecordFault::CutShort { at }) =>
-                at,
+            SheetFault::Record(x) => x.place(),
             SheetFault::OutOfTurn { at } | SheetFault::NoEnd { at } | SheetFault::AfterEnd { at } =>
                 at,
         }

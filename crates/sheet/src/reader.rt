@@ -1,24 +1,27 @@
 //! A reader that takes the records of a sheet, each in its turn.
-ghost use Rattle.std.specs.Prelude.{◌≡◌, drop};
-ghost use Rattle.sheet.specs.Readings.{next, answer_of, reader_after, new_reader};
+ghost use Rattle.std.specs.Prelude.{◌≡◌};
+ghost use Rattle.sheet.specs.Readings.{new_reader, taken, answer_of, reader_after};
 
 use crate::fault::SheetFault;
-use crate::record::{Record, record_at};
+use crate::record::{Kind, Record};
 use crate::state::State;
+use records::record_at;
 
-/// Where a reader is: what has come, and the place of the next record.
+/// A sheet, what of it has come, and the place of the next record.
 #[derive(Clone, Copy)]
-pub struct Reader {
+pub struct Reader<'a> {
+    sheet: &'a [u8],
     state: State,
     at: usize,
 }
 
-impl Reader {
+impl<'a> Reader<'a> {
     /// At the start of a sheet.
-    pub fn new() -> Reader
-        ensures { result ≡ new_reader }
+    pub fn new(sheet: &'a [u8]) -> Reader<'a>
+        ensures { result ≡ new_reader sheet.entry }
     {
         Reader {
+            sheet,
             state: State::Opening,
             at: 0,
         }
@@ -32,22 +35,20 @@ impl Reader {
     }
 
     /// Takes the next record. A fault leaves the reader where it was.
-    pub fn take(&mut self, sheet: &[u8]) -> Result<Record, SheetFault>
-        ensures answer { result ≡ answer_of (next self.old (drop self.old.at sheet.now)) }
-        ensures reader { self.new ≡ reader_after self.old (next self.old (drop self.old.at sheet.now)) }
+    #[tactic(auto, using(crate::proofs::Places::next_at))]
+    pub fn take(&mut self) -> Result<Record, SheetFault>
+        ensures answer { result ≡ answer_of (taken self.old) }
+        ensures reader { self.new ≡ reader_after self.old (taken self.old) }
     {
         let at = self.at;
-        if at >= sheet.len() {
+        if at >= self.sheet.len() {
             return Err(SheetFault::NoEnd { at });
         }
-        let (kind, body) = record_at(sheet, at)?;
+        let (kind, body) = record_at::<Kind>(self.sheet, at)?;
         let found = Record::of(kind, body);
-        let mut state = self.state;
-        if !state.take(found) {
-            return Err(SheetFault::OutOfTurn { at });
-        }
-        let behind = at + 1 + body.len();
-        if found.is_end() && behind < sheet.len() {
+        let state = self.state.after(found).ok_or(SheetFault::OutOfTurn { at })?;
+        let behind = at + found.size();
+        if found == Record::End && behind < self.sheet.len() {
             return Err(SheetFault::AfterEnd { at: behind });
         }
         self.state = state;

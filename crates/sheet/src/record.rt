@@ -1,22 +1,24 @@
 //! The records of a sheet: a byte of kind, and a body whose length the kind fixes.
-ghost use Rattle.std.specs.Prelude.{◌≡◌, ◌+◌, ◌≤◌, length, drop};
-ghost use Rattle.sheet.specs.Records.{kind_of, body_length, record_from, bare, made, kind_in, is_end, size, bytes};
+ghost use Rattle.std.specs.Prelude.{◌≡◌, ◌≤◌, length};
+ghost use Rattle.std.specs.Option.{ok_or};
+ghost use Rattle.sheet.specs.Records.{code, kind_of, body_length, made, kind_in, size, bytes};
 
-use crate::fault::RecordFault;
+use records::{NoSuchKind, RecordKind};
 
-#[derive(Clone, Copy)]
+/// The kinds of record, by their bytes.
+#[derive(Clone, Copy, PartialEq, Eq, Debug)]
 pub enum Kind {
-    Head,
-    Start,
-    Left,
-    Straight,
-    Right,
-    Toll,
-    End,
+    Head = 0x01,
+    Start = 0x02,
+    Left = 0x03,
+    Straight = 0x04,
+    Right = 0x05,
+    Toll = 0x06,
+    End = 0x07,
 }
 
 /// Where a column goes in the next standing row.
-#[derive(Clone, Copy)]
+#[derive(Clone, Copy, PartialEq, Eq, Debug)]
 pub enum Step {
     Left,
     Straight,
@@ -24,7 +26,7 @@ pub enum Step {
 }
 
 /// The size of a card, and its standing rows as a mask.
-#[derive(Clone, Copy)]
+#[derive(Clone, Copy, PartialEq, Eq, Debug)]
 pub struct Head {
     pub rows: u8,
     pub columns: u8,
@@ -32,14 +34,15 @@ pub struct Head {
 }
 
 /// What is asked for a PE.
-#[derive(Clone, Copy)]
+#[derive(Clone, Copy, PartialEq, Eq, Debug)]
 pub struct Toll {
     pub row: u8,
     pub column: u8,
     pub amount: u32,
 }
 
-#[derive(Clone, Copy)]
+/// What one record of a sheet says.
+#[derive(Clone, Copy, PartialEq, Eq, Debug)]
 pub enum Record {
     Head(Head),
     /// a column starts at this physical column
@@ -49,25 +52,41 @@ pub enum Record {
     End,
 }
 
-impl Kind {
-    pub fn of(byte: u8) -> Option<Kind>
-        ensures { result ≡ kind_of byte }
-    {
+impl From<Kind> for u8 {
+    ghost from_gives = { λ kind byte. byte ≡ code kind };
+
+    fn from(kind: Kind) -> u8 {
+        kind as u8
+    }
+}
+
+impl TryFrom<u8> for Kind {
+    type Error = NoSuchKind;
+
+    ghost try_from_gives = { λ byte r. r ≡ ok_or (kind_of byte) (record {}) };
+
+    fn try_from(byte: u8) -> Result<Kind, NoSuchKind> {
         match byte {
-            0x01 => Some(Kind::Head),
-            0x02 => Some(Kind::Start),
-            0x03 => Some(Kind::Left),
-            0x04 => Some(Kind::Straight),
-            0x05 => Some(Kind::Right),
-            0x06 => Some(Kind::Toll),
-            0x07 => Some(Kind::End),
-            _ => None,
+            0x01 => Ok(Kind::Head),
+            0x02 => Ok(Kind::Start),
+            0x03 => Ok(Kind::Left),
+            0x04 => Ok(Kind::Straight),
+            0x05 => Ok(Kind::Right),
+            0x06 => Ok(Kind::Toll),
+            0x07 => Ok(Kind::End),
+            _ => Err(NoSuchKind),
         }
     }
+}
 
-    pub fn body_length(self) -> usize
-        ensures { result ≡ body_length self }
-    {
+impl RecordKind for Kind {
+    ghost kind_of = { kind_of };
+
+    ghost length_of = { body_length };
+
+    ghost read_from_byte = { λ byte r e. e };
+
+    fn body_length(self) -> usize {
         match self {
             Kind::Head => 10,
             Kind::Start => 1,
@@ -77,22 +96,20 @@ impl Kind {
     }
 }
 
-/// The record at a place of a sheet: its kind, and its body as that part of the sheet.
-pub fn record_at<'a>(sheet: &'a [u8], at: usize) -> Result<(Kind, &'a [u8]), RecordFault>
-    ensures { bare result ≡ record_from at (drop at sheet.now) }
-{
-    if at >= sheet.len() {
-        return Err(RecordFault::CutShort { at });
+impl From<Record> for Kind {
+    ghost from_gives = { λ x kind. kind ≡ kind_in x };
+
+    fn from(x: Record) -> Kind {
+        match x {
+            Record::Head(_) => Kind::Head,
+            Record::Start(_) => Kind::Start,
+            Record::Step(Step::Left) => Kind::Left,
+            Record::Step(Step::Straight) => Kind::Straight,
+            Record::Step(Step::Right) => Kind::Right,
+            Record::Toll(_) => Kind::Toll,
+            Record::End => Kind::End,
+        }
     }
-    let Some(kind) = Kind::of(sheet[at]) else {
-        return Err(RecordFault::UnknownKind { at });
-    };
-    let start = at + 1;
-    let length = kind.body_length();
-    if sheet.len() - start < length {
-        return Err(RecordFault::CutShort { at });
-    }
-    Ok((kind, &sheet[start..start + length]))
 }
 
 impl Record {
@@ -105,9 +122,7 @@ impl Record {
             Kind::Head => Record::Head(Head {
                 rows: body[0],
                 columns: body[1],
-                standing: u64::from_be_bytes([
-                    body[2], body[3], body[4], body[5], body[6], body[7], body[8], body[9],
-                ]),
+                standing: u64::from_be_bytes(body[2..10].try_into().unwrap()),
             }),
             Kind::Start => Record::Start(body[0]),
             Kind::Left => Record::Step(Step::Left),
@@ -116,32 +131,9 @@ impl Record {
             Kind::Toll => Record::Toll(Toll {
                 row: body[0],
                 column: body[1],
-                amount: u32::from_be_bytes([body[2], body[3], body[4], body[5]]),
+                amount: u32::from_be_bytes(body[2..6].try_into().unwrap()),
             }),
             Kind::End => Record::End,
-        }
-    }
-
-    pub fn kind(self) -> Kind
-        ensures { result ≡ kind_in self }
-    {
-        match self {
-            Record::Head(_) => Kind::Head,
-            Record::Start(_) => Kind::Start,
-            Record::Step(Step::Left) => Kind::Left,
-            Record::Step(Step::Straight) => Kind::Straight,
-            Record::Step(Step::Right) => Kind::Right,
-            Record::Toll(_) => Kind::Toll,
-            Record::End => Kind::End,
-        }
-    }
-
-    pub fn is_end(self) -> bool
-        ensures { result ≡ is_end self }
-    {
-        match self {
-            Record::End => true,
-            Record::Head(_) | Record::Start(_) | Record::Step(_) | Record::Toll(_) => false,
         }
     }
 
@@ -149,7 +141,7 @@ impl Record {
     pub fn size(self) -> usize
         ensures { result ≡ size self }
     {
-        1 + self.kind().body_length()
+        1 + Kind::from(self).body_length()
     }
 
     /// Writes its bytes to a part of a buffer that is just as long.
@@ -157,20 +149,20 @@ impl Record {
         requires { length out.old ≡ size self }
         ensures { out.new ≡ bytes self }
     {
+        let kind = u8::from(Kind::from(self));
         match self {
             Record::Head(head) => {
-                let [a, b, c, d, e, f, g, h] = head.standing.to_be_bytes();
-                out.copy_from_slice(&[0x01, head.rows, head.columns, a, b, c, d, e, f, g, h]);
+                let (front, standing) = out.split_at_mut(3);
+                front.copy_from_slice(&[kind, head.rows, head.columns]);
+                standing.copy_from_slice(&head.standing.to_be_bytes());
             }
-            Record::Start(column) => out.copy_from_slice(&[0x02, column]),
-            Record::Step(Step::Left) => out.copy_from_slice(&[0x03]),
-            Record::Step(Step::Straight) => out.copy_from_slice(&[0x04]),
-            Record::Step(Step::Right) => out.copy_from_slice(&[0x05]),
+            Record::Start(column) => out.copy_from_slice(&[kind, column]),
             Record::Toll(toll) => {
-                let [a, b, c, d] = toll.amount.to_be_bytes();
-                out.copy_from_slice(&[0x06, toll.row, toll.column, a, b, c, d]);
+                let (front, amount) = out.split_at_mut(3);
+                front.copy_from_slice(&[kind, toll.row, toll.column]);
+                amount.copy_from_slice(&toll.amount.to_be_bytes());
             }
-            Record::End => out.copy_from_slice(&[0x07]),
+            Record::Step(_) | Record::End => out.copy_from_slice(&[kind]),
         }
     }
 }

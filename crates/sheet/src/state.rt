@@ -1,10 +1,11 @@
 //! Where a sheet is, which settles what may come next.
 ghost use Rattle.std.specs.Prelude.{◌≡◌};
-ghost use Rattle.sheet.specs.Turns.{with_left, turn, taken, state_after};
+ghost use Rattle.sheet.specs.Turns.{with_left, turn};
 
 use crate::record::Record;
 
-#[derive(Clone, Copy)]
+/// What of a sheet has come.
+#[derive(Clone, Copy, PartialEq, Eq, Debug)]
 pub enum State {
     /// nothing has come
     Opening,
@@ -30,27 +31,25 @@ fn with_left(standing: u32, left: u32) -> State
 }
 
 impl State {
-    /// Moves on by a record and answers whether it was in turn; one out of turn changes nothing.
-    pub fn take(&mut self, next: Record) -> bool
-        ensures answer { result ≡ taken (turn self.old next) }
-        ensures state { self.new ≡ state_after self.old (turn self.old next) }
+    /// The state after a record, if it may come here.
+    pub fn after(self, next: Record) -> Option<State>
+        ensures { result ≡ turn self next }
     {
-        *self = match (*self, next) {
-            (State::Opening, Record::Head(head)) => State::Between {
+        match (self, next) {
+            (State::Opening, Record::Head(head)) => Some(State::Between {
                 standing: masks::count(head.standing),
-            },
-            (State::Between { standing }, Record::Start(_)) => with_left(
+            }),
+            (State::Between { standing }, Record::Start(_)) => Some(with_left(
                 standing,
                 standing.saturating_sub(1),
-            ),
-            (State::Column { standing, left }, Record::Step(_)) => with_left(
+            )),
+            (State::Column { standing, left }, Record::Step(_)) => Some(with_left(
                 standing,
                 left.saturating_sub(1),
-            ),
-            (State::Between { standing: _ } | State::Tolls, Record::Toll(_)) => State::Tolls,
-            (State::Between { standing: _ } | State::Tolls, Record::End) => State::Ended,
-            _ => return false,
-        };
-        true
+            )),
+            (State::Between { standing: _ } | State::Tolls, Record::Toll(_)) => Some(State::Tolls),
+            (State::Between { standing: _ } | State::Tolls, Record::End) => Some(State::Ended),
+            _ => None,
+        }
     }
 }

@@ -1,10 +1,9 @@
 //! A writer of sheets for producers: it sees to the turn of each record, and checks no map.
 ghost use Rattle.std.specs.Prelude.{◌≡◌, length};
 ghost use Rattle.sheet.specs.Writers.{number, opening_answer, opening_buffer, put_answer, put_buffer, writer_after};
-ghost use Rattle.sheet.specs.declared.record.Record.TheVariants.{Start as a-start, Step as a-step, Toll as a-toll, End as an-end};
 ghost use Rattle.sheet.specs.declared.writer.Refusal.TheVariants.{Card};
 
-use crate::record::{Head, Record, Step, Toll};
+use crate::record::{Head, Record};
 use crate::state::State;
 use host::size::Size;
 
@@ -51,8 +50,7 @@ pub struct Writer {
 }
 
 impl Writer {
-    /// Writes the head of a sheet at the front of a buffer. Each later call is given the buffer, writes its record behind the last one
-    /// and answers the length of the sheet so far; a refused call changes neither the writer nor the buffer.
+    /// Writes the head of a sheet at the front of a buffer, behind which starts, steps, tolls and the end are put.
     pub fn open(rows: u8, columns: u8, standing: u64, out: &mut [u8]) -> Result<Writer, Refusal>
         ensures answer { result ≡ opening_answer rows columns standing (length out.old) }
         ensures buffer { out.new ≡ opening_buffer rows columns standing out.old }
@@ -77,60 +75,21 @@ impl Writer {
         Ok(writer)
     }
 
-    /// A column starts at this physical column.
-    pub fn start(&mut self, column: u8, out: &mut [u8]) -> Result<usize, Refusal>
-        ensures answer { result ≡ put_answer self.old (a-start column) (length out.old) }
-        ensures writer { self.new ≡ writer_after self.old (a-start column) (length out.old) }
-        ensures buffer { out.new ≡ put_buffer self.old (a-start column) out.old }
-    {
-        self.put(Record::Start(column), out)
-    }
-
-    /// The column goes on in the next standing row.
-    pub fn step(&mut self, step: Step, out: &mut [u8]) -> Result<usize, Refusal>
-        ensures answer { result ≡ put_answer self.old (a-step step) (length out.old) }
-        ensures writer { self.new ≡ writer_after self.old (a-step step) (length out.old) }
-        ensures buffer { out.new ≡ put_buffer self.old (a-step step) out.old }
-    {
-        self.put(Record::Step(step), out)
-    }
-
-    /// A toll on a PE.
-    pub fn toll(&mut self, toll: Toll, out: &mut [u8]) -> Result<usize, Refusal>
-        ensures answer { result ≡ put_answer self.old (a-toll toll) (length out.old) }
-        ensures writer { self.new ≡ writer_after self.old (a-toll toll) (length out.old) }
-        ensures buffer { out.new ≡ put_buffer self.old (a-toll toll) out.old }
-    {
-        self.put(Record::Toll(toll), out)
-    }
-
-    /// The sheet ends.
-    pub fn end(&mut self, out: &mut [u8]) -> Result<usize, Refusal>
-        ensures answer { result ≡ put_answer self.old an-end (length out.old) }
-        ensures writer { self.new ≡ writer_after self.old an-end (length out.old) }
-        ensures buffer { out.new ≡ put_buffer self.old an-end out.old }
-    {
-        self.put(Record::End, out)
-    }
-
-    /// Writes a record behind the last one.
+    /// Writes a record behind the last one and answers the length of the sheet so far; a refused call changes nothing.
     pub fn put(&mut self, next: Record, out: &mut [u8]) -> Result<usize, Refusal>
         ensures answer { result ≡ put_answer self.old next (length out.old) }
         ensures writer { self.new ≡ writer_after self.old next (length out.old) }
         ensures buffer { out.new ≡ put_buffer self.old next out.old }
     {
-        let mut state = self.state;
-        if !state.take(next) {
-            return Err(Refusal::OutOfTurn);
-        }
-        let size = next.size();
         let at = self.at;
-        if at > out.len() || out.len() - at < size {
+        let state = self.state.after(next).ok_or(Refusal::OutOfTurn)?;
+        if out.len().saturating_sub(at) < next.size() {
             return Err(Refusal::ShortBuffer);
         }
-        next.write(&mut out[at..at + size]);
+        let behind = at + next.size();
+        next.write(&mut out[at..behind]);
         self.state = state;
-        self.at = at + size;
-        Ok(at + size)
+        self.at = behind;
+        Ok(behind)
     }
 }

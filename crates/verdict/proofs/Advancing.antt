@@ -1,12 +1,13 @@
 -- What a judge has of a sheet, and the records that led there. Assumes nothing.
-use Rattle.std.proofs.Common.{◌≡◌, ℕ, ◌+◌, ◌-◌, ◌^◌, ◌<◌, ◌≤◌, Bool, true, false, cond, not, ◌&&◌, eqb, ltb, leb, ◌⊎◌, List, [], ◌∷◌, ◌++◌, map, length, get_or, Some, None, Ok, Err, Option, Result, sym, refl, ap, ◌∙◌, subst, subst₂, inl, inr, arith, pow_mono}
+use Rattle.std.proofs.Common.{◌≡◌, ℕ, ◌+◌, ◌-◌, ◌^◌, ◌<◌, ◌≤◌, true, false, eqb, ltb, ◌⊎◌, List, [], ◌∷◌, ◌++◌, map, length, get_or, Some, None, Ok, Err, Option, Result, sym, refl, ap, ◌∙◌, subst, subst₂, inl, inr, arith, pow_mono}
 use Rattle.std.specs.List.{flat_map, AllByRecursion}
 use Rattle.std.proofs.ByRecursion.{All-push}
 use Rattle.std.proofs.lemmas.List.{append_assoc, append-nil, flat_map_more, length_push, map_push}
-use Rattle.std.proofs.lemmas.Bool.{cases_Bool, cases_eq, cond-true, cond-false, and_parts, eqb-true, eq-eqb, ne_eqb, ltb-true, lt-ltb, le-ltb, leb-true, cases_lt, both_ways}
+use Rattle.std.proofs.lemmas.Bool.{cases_eq, cond-true, cond-false, eq-eqb, ne_eqb, ltb-true, lt-ltb, le-ltb, cases_lt, both_ways}
+use Rattle.std.proofs.lemmas.Bool.Decides.{nat_tests}
 use Rattle.masks.specs.Masks.{bit, how_many}
 use Rattle.masks.proofs.Bits.{bit_low}
-use Rattle.host.specs.Refusals.{refuse, answered}
+use Rattle.host.specs.Refusals.{answered}
 use Rattle.plans.specs.Columns.{Near, Column, standing, row}
 use Rattle.plans.specs.Families.{LeftOf, Pairwise}
 use Rattle.plans.specs.Least.{last}
@@ -15,30 +16,20 @@ use Rattle.sheet.specs.declared.record.Head.{Head}
 use Rattle.sheet.specs.declared.record.Record.{Record}
 use Rattle.sheet.specs.declared.record.Record.TheVariants as r
 use Rattle.sheet.specs.declared.record.Step.{Step}
-use Rattle.sheet.specs.declared.record.Step.TheVariants.{Left, Straight, Right}
 use Rattle.sheet.specs.declared.record.Toll.{Toll}
 use Rattle.sheet.specs.declared.state.State.{State}
 use Rattle.sheet.specs.declared.state.State.TheVariants as s
 use Rattle.sheet.specs.Records.{is_end}
 use Rattle.sheet.specs.Turns.{turn, with_left}
-use Rattle.verdict.specs.declared.fault.JudgeFault.{JudgeFault}
-use Rattle.verdict.specs.declared.fault.JudgeFault.TheVariants.{OtherCard, OutsideHost, NotUsable, NotRight, TollPlace, TollOrder, TollAmount}
+use Rattle.verdict.specs.declared.fault.CardFault.{CardFault}
+use Rattle.verdict.specs.declared.fault.CardFault.TheVariants.{OutsideHost}
 use Rattle.verdict.specs.Boards.{Board, card, Proper}
-use Rattle.verdict.specs.Judging.{Gathered, blank, may_follow, same_head, with_pe, right_of_last, pe_checked, stepped, step_checked, before, with_toll, tollable, payable, toll_fault, checked}
+use Rattle.verdict.specs.Judging.{Gathered, blank, may_follow, with_pe, right_of_last, pe_checked, stepped, step_checked, before, with_toll, toll_fault, checked}
 use Rattle.verdict.specs.Sheets.{step_to, steps, column_records, head_of}
 use Rattle.verdict.proofs.Boards.{counted}
 use Rattle.verdict.proofs.Lists.{In, after_true, all_after, pairwise_push, in_passing}
 use Rattle.verdict.proofs.Placing.{RightIn, Part, part_none, part_more, part_column, part_left, left_trans}
 use Rattle.verdict.proofs.TollLists.{Before, before_true, before_trans, Payable, Listed}
-
--- a test that did not refuse
-pub not_refused : {A : Type 0} (t : Bool) (x : JudgeFault) (later : Option JudgeFault) (a a' : A) → answered (refuse (not t) x later) a ≡ Ok a' →
-    (t ≡ true) × (answered later a ≡ Ok a')
-not_refused true x later a a' e = (refl, e)
-not_refused false x later a a' e = let z : ◌≡◌ {A = ℕ} 0 1 = cc in absurd (omega arith)
-
-pub answered-same : {A : Type 0} (a a' : A) → ◌≡◌ {A = Result A JudgeFault} (Ok a) (Ok a') → a ≡ a'
-answered-same a a' e = cc
 
 -- what is sound in what a judge has
 pub record Valid (b : Board) (g : Gathered) : Type 0 where
@@ -88,28 +79,7 @@ pub record LeadsTo (x : Step) (j k : ℕ) : Type 0 where
   pub to : step_to j k ≡ x
 
 pub stepped_some : (x : Step) (j k : ℕ) → stepped x j ≡ Some k → LeadsTo x j k
-stepped_some Left j k e = elim (cases_eq j 0) [
-  | inl z ↦
-      let wrong : ◌≡◌ {A = Option ℕ} None (Some k) = sym (cond-true (eqb j 0) None (Some (j - 1)) (eq-eqb j 0 z)) ∙ e in
-      let y : ◌≡◌ {A = ℕ} 0 1 = cc in
-      absurd (omega arith)
-  | inr z ↦
-      let right : Some (j - 1) ≡ Some k = sym (cond-false (eqb j 0) None (Some (j - 1)) (ne_eqb j 0 z)) ∙ e in
-      let is : j - 1 ≡ k = cc in
-      record { near = omega arith; to = cond-true (ltb k j) Left (cond (ltb j k) Right Straight) (lt-ltb k j (omega arith)) }
-]
-stepped_some Straight j k e =
-    let is : j ≡ k = cc in
-    record {
-      near = omega arith;
-      to = cond-false (ltb k j) Left (cond (ltb j k) Right Straight) (le-ltb k j (omega arith)) ∙ cond-false (ltb j k) Right Straight (le-ltb j k (omega arith));
-    }
-stepped_some Right j k e =
-    let is : j + 1 ≡ k = cc in
-    record {
-      near = omega arith;
-      to = cond-false (ltb k j) Left (cond (ltb j k) Right Straight) (le-ltb k j (omega arith)) ∙ cond-true (ltb j k) Right Straight (lt-ltb j k (omega arith));
-    }
+stepped_some x j k e = grind (arith, nat_tests)
 
 -- one PE more
 module _ (b : Board) (g : Gathered) (j : ℕ) (valid : Valid b g) (free : g.tolls ≡ []) where
@@ -169,17 +139,17 @@ module _ (b : Board) (g : Gathered) (j : ℕ) (valid : Valid b g) (free : g.toll
             record { is = refl; linked = subst₂ (Linked b) (sym t) (sym p) l; says = ap (said b) p ∙ said-longer }
       ]
 
-  pub place_holds : (at : ℕ) (g' : Gathered) → (0 < length g.column → Near (last g.column) j) → pe_checked b g at j ≡ Ok g' → Placed g'
-  place_holds at g' near e =
-      let c = card b in
+  -- what was seen to of it
+  passed-pe : (g' : Gathered) → pe_checked b g j ≡ Ok g' →
+      (length g.column < standing (card b)) × (b.usable (row (card b) (length g.column)) j ≡ true) × (right_of_last g j ≡ true) × (with_pe b g j ≡ g')
+  passed-pe g' e = grind (arith, nat_tests)
+
+  pub place_holds : (g' : Gathered) → (0 < length g.column → Near (last g.column) j) → pe_checked b g j ≡ Ok g' → Placed g'
+  place_holds g' near e =
       let k = length g.column in
-      let p₁ = not_refused (ltb k (standing c) && ltb j b.columns) (OutsideHost at) _ (with_pe b g j) g' e in
-      let p₂ = not_refused (b.usable (row c k) j) (NotUsable at) _ (with_pe b g j) g' p₁.1 in
-      let p₃ = not_refused (right_of_last g j) (NotRight at) _ (with_pe b g j) g' p₂.1 in
-      let room = and_parts (ltb k (standing c)) (ltb j b.columns) p₁.0 in
-      let right = after_true (λ a i. ltb (get_or a k 0) i) (RightIn k) (λ a i. ltb-true (get_or a k 0) i) g.columns j p₃.0 in
-      let part = part_more c g.columns g.column j valid.part near (ltb-true k (standing c) room.0) p₂.0 right in
-      subst Placed (answered-same (with_pe b g j) g' p₃.1) (placed part)
+      let p = passed-pe g' e in
+      let right = after_true (λ a i. ltb (get_or a k 0) i) (RightIn k) (λ a i. ltb-true (get_or a k 0) i) g.columns j p.2 in
+      subst Placed p.3 (placed (part_more (card b) g.columns g.column j valid.part near p.0 p.1 right))
 
 -- one toll more
 module _ (b : Board) (proper : Proper b) (g : Gathered) (t : Toll) (valid : Valid b g) (whole : g.column ≡ []) where
@@ -199,30 +169,24 @@ module _ (b : Board) (proper : Proper b) (g : Gathered) (t : Toll) (valid : Vali
           let up : 2 ^ 64 ≤ 2 ^ t.row = pow_mono l in
           absurd (both_ways _ (bit_low b.stand t.row (omega (arith, proper.mask_limit))) on)
 
-  pub toll_holds : (at : ℕ) (g' : Gathered) → answered (toll_fault b g at t) (with_toll g t) ≡ Ok g' → Tolled g'
-  toll_holds at g' e =
+  passed-toll : (g' : Gathered) → answered (toll_fault b g t) (with_toll g t) ≡ Ok g' →
+      (bit b.stand t.row ≡ true) × (b.usable t.row t.column ≡ true) × (may_follow before g.tolls t ≡ true) × (0 < t.amount) × (t.amount ≤ worth) × (with_toll g t ≡ g')
+  passed-toll g' e = grind (arith, nat_tests)
+
+  pub toll_holds : (g' : Gathered) → answered (toll_fault b g t) (with_toll g t) ≡ Ok g' → Tolled g'
+  toll_holds g' e =
       let c = card b in
-      let p₁ = not_refused (tollable b t) (TollPlace at) _ (with_toll g t) g' e in
-      let p₂ = not_refused (may_follow before g.tolls t) (TollOrder at) _ (with_toll g t) g' p₁.1 in
-      let p₃ = not_refused (payable t) (TollAmount at) _ (with_toll g t) g' p₂.1 in
-      let here = and_parts (bit b.stand t.row) _ p₁.0 in
-      let there = and_parts (ltb t.column b.columns) (b.usable t.row t.column) here.1 in
-      let pays = and_parts (leb 1 t.amount) (leb t.amount worth) p₃.0 in
-      let after = after_true before Before before_true g.tolls t p₂.0 in
+      let p = passed-toll g' e in
+      let after = after_true before Before before_true g.tolls t p.2 in
       let listed : Listed c (g.tolls ++ t ∷ []) = record {
         sorted = pairwise_push Before g.tolls t valid.listed.sorted (all_after Before before_trans g.tolls t valid.listed.sorted after);
-        each = All-push (Payable c) g.tolls t valid.listed.each (record {
-          in_row = in_rows here.0;
-          usable = there.1;
-          some = leb-true 1 t.amount pays.0;
-          limit = leb-true t.amount worth pays.1;
-        });
+        each = All-push (Payable c) g.tolls t valid.listed.each (record { in_row = in_rows p.0; usable = p.1; some = p.3; limit = p.4 });
       } in
       let done : Tolled (with_toll g t) = record {
         linked = (whole, record { each = valid.each; ordered = valid.ordered; part = valid.part; listed = listed });
         says = said-toll;
       } in
-      subst Tolled (answered-same (with_toll g t) g' p₃.1) done
+      subst Tolled p.5 done
 
 -- one record more
 pub record Advanced (b : Board) (a : State) (g : Gathered) (x : Record) (a' : State) (g' : Gathered) : Type 0 where
@@ -230,36 +194,29 @@ pub record Advanced (b : Board) (a : State) (g : Gathered) (x : Record) (a' : St
   pub says : said_at b a' g' ≡ said_at b a g ++ x ∷ []
 
 said-with_left : (b : Board) (n left : ℕ) (g : Gathered) → said_at b (with_left n left) g ≡ said b g
-said-with_left b n left g = elim (cases_Bool (ltb 0 left)) [
-  | inl t ↦ ap (λ (a : State). said_at b a g) (cond-true (ltb 0 left) (s.Column n left) (s.Between n) t)
-  | inr t ↦ ap (λ (a : State). said_at b a g) (cond-false (ltb 0 left) (s.Column n left) (s.Between n) t)
-]
-
-none_some : (a : State) → ◌≡◌ {A = Option State} None (Some a) → ⊥
-none_some a e = let z : ◌≡◌ {A = ℕ} 0 1 = cc in omega arith
+said-with_left b n left g = grind arith
 
 some_same : (a a' : State) → Some a ≡ Some a' → a ≡ a'
 some_same a a' e = cc
 
-advance_head : (b : Board) (g : Gathered) (at : ℕ) (h : Head) (g' : Gathered) → g ≡ blank → checked b g at (r.Head h) ≡ Ok g' →
+passed-head : (b : Board) (g : Gathered) (h : Head) (g' : Gathered) → checked b g (r.Head h) ≡ Ok g' →
+    (h.rows ≡ b.rows) × (h.columns ≡ b.columns) × (h.standing ≡ b.stand) × (g ≡ g')
+passed-head b g h g' e = grind (arith, nat_tests)
+
+advance_head : (b : Board) (g : Gathered) (h : Head) (g' : Gathered) → g ≡ blank → checked b g (r.Head h) ≡ Ok g' →
     Advanced b s.Opening g (r.Head h) (s.Between (how_many (bit h.standing))) g'
-advance_head b g at h g' none e =
-    let p = not_refused (same_head b h) (OtherCard at) None g g' e in
-    let q = and_parts (eqb h.rows b.rows) _ p.0 in
-    let q' = and_parts (eqb h.columns b.columns) (eqb h.standing b.stand) q.1 in
-    let e₁ = eqb-true h.rows b.rows q.0 in
-    let e₂ = eqb-true h.columns b.columns q'.0 in
-    let e₃ = eqb-true h.standing b.stand q'.1 in
-    let same : g' ≡ blank = sym (answered-same g g' p.1) ∙ none in
+advance_head b g h g' none e =
+    let p = passed-head b g h g' e in
+    let same : g' ≡ blank = sym p.3 ∙ none in
     let valid : Valid b blank = record { each = tt; ordered = tt; part = part_none (card b) []; listed = record { sorted = tt; each = tt } } in
-    let linked : Linked b (s.Between (how_many (bit h.standing))) blank = (ap (λ (m : ℕ). how_many (bit m)) e₃ ∙ counted b, refl, refl, valid) in
-    let says : said b blank ≡ r.Head h ∷ [] = λ i. r.Head (record { rows = sym e₁ i; columns = sym e₂ i; standing = sym e₃ i }) ∷ [] in
+    let linked : Linked b (s.Between (how_many (bit h.standing))) blank = (ap (λ (m : ℕ). how_many (bit m)) p.2 ∙ counted b, refl, refl, valid) in
+    let says : said b blank ≡ r.Head h ∷ [] = λ i. r.Head (record { rows = sym p.0 i; columns = sym p.1 i; standing = sym p.2 i }) ∷ [] in
     record { linked = subst (Linked b (s.Between (how_many (bit h.standing)))) (sym same) linked; says = ap (said b) same ∙ says }
 
-advance_start : (b : Board) (n : ℕ) (g : Gathered) (at j : ℕ) (g' : Gathered) → Linked b (s.Between n) g → checked b g at (r.Start j) ≡ Ok g' →
+advance_start : (b : Board) (n : ℕ) (g : Gathered) (j : ℕ) (g' : Gathered) → Linked b (s.Between n) g → checked b g (r.Start j) ≡ Ok g' →
     Advanced b (s.Between n) g (r.Start j) (with_left n (n - 1)) g'
-advance_start b n g at j g' l e =
-    let p = place_holds b g j l.3 l.2 at g' (λ some. absurd (omega (arith, ap length l.1))) e in
+advance_start b n g j g' l e =
+    let p = place_holds b g j l.3 l.2 g' (λ some. absurd (omega (arith, ap length l.1))) e in
     let left : standing (card b) - (length g.column + 1) ≡ n - 1 = omega (arith, l.0, ap length l.1) in
     let first : next_record g.column j ≡ r.Start j = ap (λ (a : List ℕ). next_record a j) l.1 in
     record {
@@ -271,18 +228,17 @@ next_step : (a : List ℕ) (x : Step) (j : ℕ) → 0 < length a → LeadsTo x (
 next_step [] x j some i = absurd (omega arith)
 next_step (k ∷ a) x j some i = ap r.Step i.to
 
-advance_step : (b : Board) (n left : ℕ) (g : Gathered) (at : ℕ) (x : Step) (g' : Gathered) → Linked b (s.Column n left) g → checked b g at (r.Step x) ≡ Ok g' →
+advance_step : (b : Board) (n left : ℕ) (g : Gathered) (x : Step) (g' : Gathered) → Linked b (s.Column n left) g → checked b g (r.Step x) ≡ Ok g' →
     Advanced b (s.Column n left) g (r.Step x) (with_left n (left - 1)) g'
-advance_step b n left g at x g' l e = go (stepped x (last g.column)) refl
+advance_step b n left g x g' l e = go (stepped x (last g.column)) refl
   where
     go : (o : Option ℕ) → stepped x (last g.column) ≡ o → Advanced b (s.Column n left) g (r.Step x) (with_left n (left - 1)) g'
     go None q =
-        let wrong : ◌≡◌ {A = Result Gathered JudgeFault} (Err (OutsideHost at)) (Ok g') = ap (step_checked b g at) (sym q) ∙ e in
-        let z : ◌≡◌ {A = ℕ} 0 1 = cc in
-        absurd (omega arith)
+        let wrong : ◌≡◌ {A = Result Gathered CardFault} (Err OutsideHost) (Ok g') = ap (step_checked b g) (sym q) ∙ e in
+        absurd (cc)
     go (Some j) q =
         let i = stepped_some x (last g.column) j q in
-        let p = place_holds b g j l.4 l.3 at g' (λ some. i.near) (ap (step_checked b g at) (sym q) ∙ e) in
+        let p = place_holds b g j l.4 l.3 g' (λ some. i.near) (ap (step_checked b g) (sym q) ∙ e) in
         let less : standing (card b) - (length g.column + 1) ≡ left - 1 = omega (arith, l.1) in
         let next : next_record g.column j ≡ r.Step x = next_step g.column x j l.2 i in
         record {
@@ -291,40 +247,21 @@ advance_step b n left g at x g' l e = go (stepped x (last g.column)) refl
         }
 
 -- (the end record is not gathered)
-pub advance : (b : Board) → Proper b → (a : State) (g : Gathered) (at : ℕ) (x : Record) (a' : State) (g' : Gathered) → is_end x ≡ false → Linked b a g →
-    turn a x ≡ Some a' → checked b g at x ≡ Ok g' → Advanced b a g x a' g'
-advance b proper s.Opening g at (r.Head h) a' g' on l u e =
-    subst (λ (a : State). Advanced b s.Opening g (r.Head h) a g') (some_same _ a' u) (advance_head b g at h g' l e)
-advance b proper s.Opening g at (r.Start j) a' g' on l u e = absurd (none_some a' u)
-advance b proper s.Opening g at (r.Step x) a' g' on l u e = absurd (none_some a' u)
-advance b proper s.Opening g at (r.Toll t) a' g' on l u e = absurd (none_some a' u)
-advance b proper s.Opening g at r.End a' g' on l u e = let z : ◌≡◌ {A = ℕ} 0 1 = cc in absurd (omega arith)
-advance b proper (s.Between n) g at (r.Head h) a' g' on l u e = absurd (none_some a' u)
-advance b proper (s.Between n) g at (r.Start j) a' g' on l u e =
-    subst (λ (a : State). Advanced b (s.Between n) g (r.Start j) a g') (some_same _ a' u) (advance_start b n g at j g' l e)
-advance b proper (s.Between n) g at (r.Step x) a' g' on l u e = absurd (none_some a' u)
-advance b proper (s.Between n) g at (r.Toll t) a' g' on l u e =
-    let p = toll_holds b proper g t l.3 l.1 at g' e in
+pub advance : (b : Board) → Proper b → (a : State) (g : Gathered) (x : Record) (a' : State) (g' : Gathered) → is_end x ≡ false → Linked b a g →
+    turn a x ≡ Some a' → checked b g x ≡ Ok g' → Advanced b a g x a' g'
+advance b proper s.Opening g (r.Head h) a' g' on l u e =
+    subst (λ (a : State). Advanced b s.Opening g (r.Head h) a g') (some_same _ a' u) (advance_head b g h g' l e)
+advance b proper (s.Between n) g (r.Start j) a' g' on l u e =
+    subst (λ (a : State). Advanced b (s.Between n) g (r.Start j) a g') (some_same _ a' u) (advance_start b n g j g' l e)
+advance b proper (s.Between n) g (r.Toll t) a' g' on l u e =
+    let p = toll_holds b proper g t l.3 l.1 g' e in
     subst (λ (a : State). Advanced b (s.Between n) g (r.Toll t) a g') (some_same _ a' u) (record { linked = p.linked; says = p.says })
-advance b proper (s.Between n) g at r.End a' g' on l u e = let z : ◌≡◌ {A = ℕ} 0 1 = cc in absurd (omega arith)
-advance b proper (s.Column n left) g at (r.Head h) a' g' on l u e = absurd (none_some a' u)
-advance b proper (s.Column n left) g at (r.Start j) a' g' on l u e = absurd (none_some a' u)
-advance b proper (s.Column n left) g at (r.Step x) a' g' on l u e =
-    subst (λ (a : State). Advanced b (s.Column n left) g (r.Step x) a g') (some_same _ a' u) (advance_step b n left g at x g' l e)
-advance b proper (s.Column n left) g at (r.Toll t) a' g' on l u e = absurd (none_some a' u)
-advance b proper (s.Column n left) g at r.End a' g' on l u e = let z : ◌≡◌ {A = ℕ} 0 1 = cc in absurd (omega arith)
-advance b proper s.Tolls g at (r.Head h) a' g' on l u e = absurd (none_some a' u)
-advance b proper s.Tolls g at (r.Start j) a' g' on l u e = absurd (none_some a' u)
-advance b proper s.Tolls g at (r.Step x) a' g' on l u e = absurd (none_some a' u)
-advance b proper s.Tolls g at (r.Toll t) a' g' on l u e =
-    let p = toll_holds b proper g t l.1 l.0 at g' e in
+advance b proper (s.Column n left) g (r.Step x) a' g' on l u e =
+    subst (λ (a : State). Advanced b (s.Column n left) g (r.Step x) a g') (some_same _ a' u) (advance_step b n left g x g' l e)
+advance b proper s.Tolls g (r.Toll t) a' g' on l u e =
+    let p = toll_holds b proper g t l.1 l.0 g' e in
     subst (λ (a : State). Advanced b s.Tolls g (r.Toll t) a g') (some_same _ a' u) (record { linked = p.linked; says = p.says })
-advance b proper s.Tolls g at r.End a' g' on l u e = let z : ◌≡◌ {A = ℕ} 0 1 = cc in absurd (omega arith)
-advance b proper s.Ended g at (r.Head h) a' g' on l u e = absurd (none_some a' u)
-advance b proper s.Ended g at (r.Start j) a' g' on l u e = absurd (none_some a' u)
-advance b proper s.Ended g at (r.Step x) a' g' on l u e = absurd (none_some a' u)
-advance b proper s.Ended g at (r.Toll t) a' g' on l u e = absurd (none_some a' u)
-advance b proper s.Ended g at r.End a' g' on l u e = let z : ◌≡◌ {A = ℕ} 0 1 = cc in absurd (omega arith)
+advance b proper _ g _ a' g' on l u e = absurd (cc)
 
 -- where the end is in turn, the column is full
 pub record Final (b : Board) (a : State) (g : Gathered) : Type 0 where
@@ -333,8 +270,6 @@ pub record Final (b : Board) (a : State) (g : Gathered) : Type 0 where
   pub says : said_at b a g ≡ said b g
 
 pub finish : (b : Board) (a a' : State) (g : Gathered) → Linked b a g → turn a r.End ≡ Some a' → Final b a g
-finish b s.Opening a' g l u = absurd (none_some a' u)
 finish b (s.Between n) a' g l u = record { full = l.1; valid = l.3; says = refl }
-finish b (s.Column n left) a' g l u = absurd (none_some a' u)
 finish b s.Tolls a' g l u = record { full = l.0; valid = l.1; says = refl }
-finish b s.Ended a' g l u = absurd (none_some a' u)
+finish b _ a' g l u = absurd (cc)

@@ -1,9 +1,10 @@
 -- The sheet of a plan is accepted. Assumes nothing.
-use Rattle.std.proofs.Common.{◌≡◌, ℕ, ◌+◌, ◌-◌, ◌*◌, ◌<◌, Bool, true, false, cond, not, ◌&&◌, eqb, ltb, List, [], ◌∷◌, ◌++◌, map, length, get_or, Some, None, Ok, Option, sym, refl, ap, ◌∙◌, subst, arith}
+use Rattle.std.proofs.Common.{◌≡◌, ℕ, ◌+◌, ◌-◌, ◌*◌, ◌<◌, Bool, true, false, cond, not, eqb, ltb, List, [], ◌∷◌, ◌++◌, map, length, get_or, Some, None, Ok, Option, sym, refl, ap, ◌∙◌, subst, arith}
 use Rattle.std.specs.List.{flat_map, AllByRecursion}
 use Rattle.std.proofs.ByRecursion.{All-push}
 use Rattle.std.proofs.lemmas.List.{append_assoc, append-nil, length_push, length-append, get_or_at, get_or_append_left}
-use Rattle.std.proofs.lemmas.Bool.{cond-true, cond-false, and_from, eq-eqb, ne_eqb, lt-ltb, le-leb, not_from_true}
+use Rattle.std.proofs.lemmas.Bool.{cond-true, cond-false, eq-eqb, ne_eqb, lt-ltb, not_from_true}
+use Rattle.std.proofs.lemmas.Bool.Decides.{nat_tests}
 use Rattle.masks.specs.Masks.{bit}
 use Rattle.host.specs.Refusals.{refuse, answered}
 use Rattle.tariff.specs.Meaning.{Meaning}
@@ -18,13 +19,13 @@ use Rattle.sheet.specs.declared.record.Record.TheVariants as r
 use Rattle.sheet.specs.declared.record.Toll.{Toll}
 use Rattle.sheet.specs.declared.state.State.TheVariants as s
 use Rattle.sheet.specs.Records.{size, is_end}
-use Rattle.sheet.specs.Readings.{new_reader, reading, then, ends}
+use Rattle.sheet.specs.Readings.{reading, then, ends}
 use Rattle.sheet.specs.Runs.{placed}
 use Rattle.sheet.proofs.Runs.{reads_from}
-use Rattle.verdict.specs.declared.fault.JudgeFault.{JudgeFault}
-use Rattle.verdict.specs.declared.fault.JudgeFault.TheVariants.{WrongSum}
+use Rattle.verdict.specs.declared.fault.CardFault.{CardFault}
+use Rattle.verdict.specs.declared.fault.CardFault.TheVariants.{WrongSum}
 use Rattle.verdict.specs.Boards.{Board, card, Proper}
-use Rattle.verdict.specs.Judging.{Gathered, blank, may_follow, same_head, with_pe, right_of_last, pe_checked, step_checked, before, with_toll, tollable, payable, toll_fault, checked, onward, gathered, toll_of, adds_up, settled, judged}
+use Rattle.verdict.specs.Judging.{Gathered, blank, with_pe, pe_checked, step_checked, before, with_toll, toll_fault, checked, at_place, onward, gathered, toll_of, adds_up, settled, judged}
 use Rattle.verdict.specs.Sheets.{step_to, steps, column_records, head_of, records, toll_list, sheet_of}
 use Rattle.verdict.specs.Theorems.{LeftToRight}
 use Rattle.verdict.proofs.Boards.{ascending, narrow, within}
@@ -39,8 +40,8 @@ abbrev pub having : List (List ℕ) → List Toll → Gathered
 having f ts = record { columns = f; column = []; tolls = ts }
 
 -- a test that does not refuse
-passes : {A : Type 0} (t : Bool) (x : JudgeFault) (later : Option JudgeFault) (a : A) → t ≡ true → answered (refuse (not t) x later) a ≡ answered later a
-passes t x later a e = ap (λ (o : Option JudgeFault). answered o a) (cond-false (not t) (Some x) later (not_from_true t e))
+passes : {A : Type 0} (t : Bool) (x : CardFault) (later : Option CardFault) (a : A) → t ≡ true → answered (refuse (not t) x later) a ≡ answered later a
+passes t x later a e = ap (λ (o : Option CardFault). answered o a) (cond-false (not t) (Some x) later (not_from_true t e))
 
 module _ (b : Board) where
   -- these records lead a judge from what it has to something else
@@ -50,11 +51,11 @@ module _ (b : Board) where
   leads_none : (g : Gathered) → Leads g [] g
   leads_none g at rest = (at, refl)
 
-  leads_one : (g : Gathered) (x : Record) (g' : Gathered) → is_end x ≡ false → ((at : ℕ) → checked b g at x ≡ Ok g') → Leads g (x ∷ []) g'
+  leads_one : (g : Gathered) (x : Record) (g' : Gathered) → is_end x ≡ false → checked b g x ≡ Ok g' → Leads g (x ∷ []) g'
   leads_one g x g' on c at rest = (
     at + size x,
     ap (gathered b g) (cond-false (is_end x) (ends at) (then at x (placed (at + size x) rest)) on)
-        ∙ ap (onward (λ h. gathered b h (placed (at + size x) rest))) (c at),
+        ∙ ap (λ o. onward (λ h. gathered b h (placed (at + size x) rest)) (at_place at o)) c,
   )
 
   leads_append : (g : Gathered) (xs : List Record) (g₁ : Gathered) (ys : List Record) (g₂ : Gathered) → Leads g xs g₁ → Leads g₁ ys g₂ → Leads g (xs ++ ys) g₂
@@ -63,15 +64,13 @@ module _ (b : Board) where
       let two = m one.0 rest in
       (two.0, ap (λ (zs : List Record). gathered b g (placed at zs)) (append_assoc xs ys rest) ∙ one.1 ∙ two.1)
 
-  pe_passes : (proper : Proper b) (g : Gathered) (at j : ℕ) → length g.column < standing (card b) → Usable (card b) (row (card b) (length g.column)) j →
-      After (RightIn (length g.column)) g.columns j → pe_checked b g at j ≡ Ok (with_pe b g j)
-  pe_passes proper g at j room use' right =
-      let c = card b in
+  pe_passes : (proper : Proper b) (g : Gathered) (j : ℕ) → length g.column < standing (card b) → Usable (card b) (row (card b) (length g.column)) j →
+      After (RightIn (length g.column)) g.columns j → pe_checked b g j ≡ Ok (with_pe b g j)
+  pe_passes proper g j room use' right =
       let k = length g.column in
-      passes (ltb k (standing c) && ltb j b.columns) _ _ (with_pe b g j)
-      (and_from _ _ (lt-ltb k (standing c) room) (lt-ltb j b.columns (proper.inside (row c k) j use')))
-      ∙ passes (b.usable (row c k) j) _ _ (with_pe b g j) use'
-      ∙ passes (right_of_last g j) _ _ (with_pe b g j) (true_after (λ a i. ltb (get_or a k 0) i) (RightIn k) (λ a i. lt-ltb (get_or a k 0) i) g.columns j right)
+      let inside = proper.inside (row (card b) k) j use' in
+      let last = true_after (λ a i. ltb (get_or a k 0) i) (RightIn k) (λ a i. lt-ltb (get_or a k 0) i) g.columns j right in
+      grind (arith, nat_tests)
 
   -- a column
   module _ (proper : Proper b) (done : List (List ℕ)) (a : List ℕ) (cs : AllByRecursion (Column (card b)) done) (w : Column (card b) a) (left : After LeftOf done a) where
@@ -85,14 +84,14 @@ module _ (b : Board) where
     abbrev with' : List ℕ → Gathered
     with' cur = cond (eqb (length cur) n) (having (done ++ cur ∷ []) []) (begun cur)
 
-    one_more : (cur : List ℕ) (k : ℕ) (ks : List ℕ) → cur ++ k ∷ ks ≡ a → (at : ℕ) → pe_checked b (begun cur) at k ≡ Ok (with' (cur ++ k ∷ []))
-    one_more cur k ks e at =
+    one_more : (cur : List ℕ) (k : ℕ) (ks : List ℕ) → cur ++ k ∷ ks ≡ a → pe_checked b (begun cur) k ≡ Ok (with' (cur ++ k ∷ []))
+    one_more cur k ks e =
         let c = card b in
         let i = length cur in
         let pl = (Places.column c a).0 w in
         let here : get_or a i 0 ≡ k = ap (λ (z : List ℕ). get_or z i 0) (sym e) ∙ get_or_at cur k ks 0 i refl in
         let room : i < n = omega (arith, pl.1, ap length e, length-append cur (k ∷ ks)) in
-        pe_passes proper (begun cur) at k room (subst (Usable c (row c i)) here (pl.2 i room))
+        pe_passes proper (begun cur) k room (subst (Usable c (row c i)) here (pl.2 i room))
         (subst (After (RightIn i) done) here (column_right c done a left cs w i room))
 
     near_next : (cur : List ℕ) (k : ℕ) (ks : List ℕ) → cur ++ k ∷ ks ≡ a → 0 < length cur → Near (last cur) k
@@ -120,7 +119,7 @@ module _ (b : Board) where
         let g : with' cur ≡ begun cur = cond-false (eqb i n) (having (done ++ cur ∷ []) []) (begun cur) (ne_eqb i n (omega arith)) in
         let x = r.Step (step_to (last cur) k) in
         let head = leads_one (begun cur) x (with' (cur ++ k ∷ [])) refl
-        (λ at. ap (step_checked b (begun cur) at) (stepped_to (last cur) k (near_next cur k ks e some)) ∙ one_more cur k ks e at) in
+        (ap (step_checked b (begun cur)) (stepped_to (last cur) k (near_next cur k ks e some)) ∙ one_more cur k ks e) in
         let tail = grows ks (cur ++ k ∷ []) (append_assoc cur (k ∷ []) ks ∙ e) (omega (arith, length_push cur k)) in
         let tail' : Leads (with' (cur ++ k ∷ [])) (steps k ks) (having (done ++ a ∷ []) []) =
         subst (λ (y : ℕ). Leads (with' (cur ++ k ∷ [])) (steps y ks) (having (done ++ a ∷ []) [])) (last_push cur k) tail in
@@ -148,13 +147,13 @@ module _ (b : Board) where
   stands_in : (q : ℕ) → In q (card b).rows → bit b.stand q ≡ true
   stands_in q i = (all_in _ q (card b).rows (passing_each (bit b.stand) 64) i).1
 
-  toll_passes : Proper b → (g : Gathered) (t : Toll) → Payable (card b) t → After Before g.tolls t → (at : ℕ) →
-      answered (toll_fault b g at t) (with_toll g t) ≡ Ok (with_toll g t)
-  toll_passes proper g t p after at =
-      passes (tollable b t) _ _ (with_toll g t)
-      (and_from _ _ (stands_in t.row p.in_row) (and_from _ _ (lt-ltb t.column b.columns (proper.inside t.row t.column p.usable)) p.usable))
-      ∙ passes (may_follow before g.tolls t) _ _ (with_toll g t) (true_after before Before true_before g.tolls t after)
-      ∙ passes (payable t) _ _ (with_toll g t) (and_from _ _ (le-leb 1 t.amount p.some) (le-leb t.amount worth p.limit))
+  toll_passes : Proper b → (g : Gathered) (t : Toll) → Payable (card b) t → After Before g.tolls t →
+      answered (toll_fault b g t) (with_toll g t) ≡ Ok (with_toll g t)
+  toll_passes proper g t p after =
+      let inside = proper.inside t.row t.column p.usable in
+      let stands = stands_in t.row p.in_row in
+      let last = true_after before Before true_before g.tolls t after in
+      grind (arith, nat_tests)
 
   tolls_lead : Proper b → (f : List (List ℕ)) (ts ds : List Toll) → AllByRecursion (Payable (card b)) ts → Pairwise Before (ds ++ ts) →
       Leads (having f ds) (map r.Toll ts) (having f (ds ++ ts))
@@ -167,10 +166,8 @@ module _ (b : Board) where
       leads_append (having f ds) (r.Toll t ∷ []) (having f (ds ++ t ∷ [])) (map r.Toll ts) (having f (ds ++ t ∷ ts)) head
       (subst (λ (x : List Toll). Leads (having f (ds ++ t ∷ [])) (map r.Toll ts) (having f x)) regroup tail)
 
-  head_passes : (at : ℕ) → checked b blank at (head_of b) ≡ Ok blank
-  head_passes at =
-      passes (same_head b (record { rows = b.rows; columns = b.columns; standing = b.stand })) _ _ blank
-      (and_from _ _ (eq-eqb b.rows b.rows refl) (and_from _ _ (eq-eqb b.columns b.columns refl) (eq-eqb b.stand b.stand refl)))
+  head_passes : checked b blank (head_of b) ≡ Ok blank
+  head_passes = grind (arith, nat_tests)
 
   -- columns and tolls are gathered from their records
   reaches : Proper b → (f : List (List ℕ)) (ts : List Toll) → AllByRecursion (Column (card b)) f → LeftToRight f → Listed (card b) ts →
@@ -194,11 +191,11 @@ complete b m toll f proper plan ordered =
     let listed = list_listed c (ascending b) (narrow b proper) toll plan.allowed in
     let here = reaches b proper f ts plan.family.each ordered listed in
     let back : reading (sheet_of b f toll) ≡ placed 0 (records b f ts) =
-    reads_from (records b f ts) new_reader s.Ended (records_fit b proper f ts plan.family.each listed.each) (records_legal b f ts plan.family.each) in
+    reads_from (records b f ts) s.Opening 0 s.Ended (records_fit b proper f ts plan.family.each listed.each) (records_legal b f ts plan.family.each) in
     let sup = supports_same c m toll (toll_of ts) f (λ q j i. sym (list_at c (ascending b) (narrow b proper) toll plan.allowed q j i)) plan.supports in
     let cheap = all_dear c m (toll_of ts) (within b proper) sup.none_below in
     let sum : adds_up c m (having f ts) ≡ true =
     eq-eqb (total (λ t. t.amount) ts + total_charge c m f) (worth * length f) (omega (arith, down_sum toll c.rows, plan.supports.add_up)) in
     ap (λ q. settled c m (gathered b blank q)) back ∙ ap (settled c m) here.1
-    ∙ ap (λ (o : Option JudgeFault). answered o (record { columns = f; tolls = ts })) (cond-false _ _ _ cheap)
-    ∙ passes (adds_up c m (having f ts)) (WrongSum here.0) None (record { columns = f; tolls = ts }) sum
+    ∙ ap (λ (o : Option CardFault). at_place here.0 (answered o (record { columns = f; tolls = ts }))) (cond-false _ _ _ cheap)
+    ∙ ap (at_place here.0) (passes (adds_up c m (having f ts)) WrongSum None (record { columns = f; tolls = ts }) sum)

@@ -6,7 +6,6 @@ use Rattle.plans.specs.Tolls.{Plan}
 use Rattle.plans.proofs.Crossings as Crossings
 use Rattle.plans.proofs.Places.{sides}
 use Rattle.sheet.specs.declared.state.State.TheVariants.{Opening, Ended}
-use Rattle.sheet.specs.Readings.{new_reader}
 use Rattle.sheet.proofs.Runs.{reads_from, placed-same}
 use Rattle.verdict.specs.Boards.{card}
 use Rattle.verdict.specs.Judging.{judged, toll_of}
@@ -62,7 +61,7 @@ of_best b m toll f g proper lawful allowed fam sup gam firsts =
     let legal = records_legal b g ts gam.each in (
       λ a.
           let s = sound_plan b m (sheet_of b g toll) a.0 proper (written-bytes (records b g ts) fit) a.1 in
-          let both = sym (reads_from (records b g ts) new_reader Ended fit legal) ∙ s.reads in
+          let both = sym (reads_from (records b g ts) Opening 0 Ended fit legal) ∙ s.reads in
           let there = records_legal b a.0.columns a.0.tolls s.plan.family.each in
           let same : g ≡ a.0.columns =
           same_columns b g a.0.columns ts a.0.tolls gam.each s.plan.family.each

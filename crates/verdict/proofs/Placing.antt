@@ -1,8 +1,8 @@
 -- A column that grows, PE by PE, right of the columns before it. Assumes nothing.
-use Rattle.std.proofs.Common.{◌≡◌, ℕ, ◌+◌, ◌<◌, ◌≤◌, List, [], ◌∷◌, ◌++◌, length, get_or, sym, refl, ap, ◌∙◌, subst, inl, inr, arith}
+use Rattle.std.proofs.Common.{◌≡◌, ℕ, ◌+◌, ◌<◌, ◌≤◌, List, [], ◌∷◌, ◌++◌, length, get_or, sym, refl, ap, ◌∙◌, arith}
 use Rattle.std.specs.List.{AllByRecursion}
-use Rattle.std.proofs.lemmas.List.{get_or_append_left, get_or_push, length_push}
-use Rattle.std.proofs.lemmas.Bool.{cases_eq}
+use Rattle.std.proofs.lemmas.List.{get_or_push, length_push}
+use Rattle.std.proofs.lemmas.Grind.{common_steps}
 use Rattle.plans.specs.Columns.{Card, Usable, Near, Column, standing, row}
 use Rattle.plans.specs.Families.{LeftOf, Apart}
 use Rattle.plans.specs.Least.{last, last_from}
@@ -42,33 +42,14 @@ part_none c done = record {
 -- what holds at each place of a list, and of one more at its end
 each_push : (P : ℕ → ℕ → Type 0) (a : List ℕ) (j : ℕ) → ((s : ℕ) → s < length a → P s (get_or a s 0)) → P (length a) j →
     (s : ℕ) → s < length (a ++ j ∷ []) → P s (get_or (a ++ j ∷ []) s 0)
-each_push P a j each here s l = elim (cases_eq s (length a)) [
-  | inl e ↦
-      let is : get_or (a ++ j ∷ []) s 0 ≡ j = get_or_push a j 0 s (sym e) in
-      subst (P s) (sym is) (subst (λ (x : ℕ). P x j) (sym e) here)
-  | inr ne ↦
-      let k : s < length a = omega (arith, length_push a j) in
-      subst (P s) (sym (get_or_append_left a (j ∷ []) 0 s k)) (each s k)
-]
+each_push P a j each here s l = grind (arith, common_steps)
 
 pub part_more : (c : Card) (done : List (List ℕ)) (a : List ℕ) (j : ℕ) → Part c done a → (0 < length a → Near (last a) j) → length a < standing c →
     Usable c (row c (length a)) j → After (RightIn (length a)) done j → Part c done (a ++ j ∷ [])
 part_more c done a j p near room use' right = record {
   short = omega (arith, length_push a j);
   usable = each_push (λ s m. Usable c (row c s) m) a j p.usable use';
-  near = λ s l.
-      let here : s < length a = omega (arith, length_push a j) in
-      let old = get_or_append_left a (j ∷ []) 0 s here in
-      elim (cases_eq (s + 1) (length a)) [
-        | inl e ↦
-            let new : get_or (a ++ j ∷ []) (s + 1) 0 ≡ j = get_or_push a j 0 (s + 1) (sym e) in
-            let n = near (omega arith) in
-            omega (arith, old, new, last_at a s e, n.0, n.1)
-        | inr ne ↦
-            let k : s + 1 < length a = omega (arith, length_push a j) in
-            let n = p.near s k in
-            omega (arith, old, get_or_append_left a (j ∷ []) 0 (s + 1) k, n.0, n.1)
-      ];
+  near = λ s l. grind (arith, common_steps, last_at, p.near s);
   right = each_push (λ s m. After (RightIn s) done m) a j p.right right;
 }
 

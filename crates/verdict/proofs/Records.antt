@@ -1,15 +1,15 @@
 -- The records of columns and tolls: they are in turn, their numbers fit, and they tell the columns. Assumes nothing.
-use Rattle.std.proofs.Common.{◌≡◌, ℕ, ◌+◌, ◌-◌, ◌<◌, cond, eqb, ltb, List, [], ◌∷◌, ◌++◌, map, length, Some, None, Option, sym, refl, ap, ◌∙◌, subst, ap₂, inl, inr, arith}
+use Rattle.std.proofs.Common.{◌≡◌, ℕ, ◌-◌, ◌<◌, List, [], ◌∷◌, ◌++◌, map, length, Some, Option, sym, refl, ap, ◌∙◌, subst, ap₂, arith}
 use Rattle.std.specs.List.{flat_map, AllByRecursion}
 use Rattle.std.proofs.ByRecursion.{All-append}
 use Rattle.std.proofs.lemmas.List.{append_assoc}
-use Rattle.std.proofs.lemmas.Bool.{cases_lt, cond-true, cond-false, ne_eqb, lt-ltb, le-ltb}
+use Rattle.std.proofs.lemmas.Bool.{cond-true, lt-ltb}
+use Rattle.std.proofs.lemmas.Bool.Decides.{nat_tests}
 use Rattle.plans.specs.Columns.{Card, Near, Column, ColumnAlong, GoesOn, standing}
 use Rattle.plans.proofs.Places as Places
 use Rattle.sheet.specs.declared.record.Record.{Record}
 use Rattle.sheet.specs.declared.record.Record.TheVariants as r
 use Rattle.sheet.specs.declared.record.Step.{Step}
-use Rattle.sheet.specs.declared.record.Step.TheVariants.{Left, Straight, Right}
 use Rattle.sheet.specs.declared.record.Toll.{Toll}
 use Rattle.sheet.specs.declared.state.State.{State}
 use Rattle.sheet.specs.declared.state.State.TheVariants as s
@@ -25,22 +25,7 @@ use Rattle.verdict.proofs.TollLists.{Payable}
 
 -- a step between neighbours
 pub stepped_to : (j k : ℕ) → Near j k → stepped (step_to j k) j ≡ Some k
-stepped_to j k near = elim (cases_lt k j) [
-  | inl l ↦
-      let e : step_to j k ≡ Left = cond-true (ltb k j) Left (cond (ltb j k) Right Straight) (lt-ltb k j l) in
-      let is : j - 1 ≡ k = omega (arith, near.0, near.1) in
-      ap (λ (x : Step). stepped x j) e ∙ cond-false (eqb j 0) None (Some (j - 1)) (ne_eqb j 0 (omega arith)) ∙ ap Some is
-  | inr l ↦ elim (cases_lt j k) [
-    | inl m ↦
-        let e : step_to j k ≡ Right = cond-false (ltb k j) Left (cond (ltb j k) Right Straight) (le-ltb k j l) ∙ cond-true (ltb j k) Right Straight (lt-ltb j k m) in
-        let is : j + 1 ≡ k = omega (arith, near.0, near.1) in
-        ap (λ (x : Step). stepped x j) e ∙ ap Some is
-    | inr m ↦
-        let e : step_to j k ≡ Straight = cond-false (ltb k j) Left (cond (ltb j k) Right Straight) (le-ltb k j l) ∙ cond-false (ltb j k) Right Straight (le-ltb j k m) in
-        let is : j ≡ k = omega arith in
-        ap (λ (x : Step). stepped x j) e ∙ ap Some is
-  ]
-]
+stepped_to j k near = grind (arith, nat_tests)
 
 -- in turn: a column is a start and as many steps as rows are left
 steps_legal : (n j : ℕ) (ks : List ℕ) → run (with_left n (length ks)) (steps j ks) ≡ Some (s.Between n)
@@ -131,12 +116,8 @@ column_same c (q ∷ rows) (j ∷ ks) (l ∷ ls) xs ys v w e =
 
 -- a list that does not go on with a column
 abbrev NoStart : List Record → Type 0
-NoStart [] = Unit {0}
-NoStart (r.Head h ∷ xs) = Unit {0}
 NoStart (r.Start j ∷ xs) = ⊥
-NoStart (r.Step d ∷ xs) = Unit {0}
-NoStart (r.Toll t ∷ xs) = Unit {0}
-NoStart (r.End ∷ xs) = Unit {0}
+NoStart _ = Unit {0}
 
 begins : (c : Card) (rows a : List ℕ) (xs : List Record) → ColumnAlong c rows a → NoStart (column_records a ++ xs) → ⊥
 begins c [] a xs w n = w

@@ -1,8 +1,9 @@
 -- An accepted sheet is the sheet of a plan. Assumes nothing.
-use Rattle.std.proofs.Common.{◌≡◌, ℕ, ◌+◌, ◌*◌, true, false, List, [], ◌∷◌, ◌++◌, length, Some, None, Ok, Err, Option, Result, sym, refl, ap, ◌∙◌, subst, ap₂, inl, arith}
+use Rattle.std.proofs.Common.{◌≡◌, ℕ, ◌+◌, ◌*◌, true, false, List, [], ◌∷◌, ◌++◌, length, Some, Ok, Err, Option, Result, sym, refl, ap, ◌∙◌, subst, ap₂, inl, arith}
 use Rattle.std.proofs.lemmas.List.{append_assoc}
 use Rattle.std.proofs.lemmas.Bool.{cond-false, eqb-true}
 use Rattle.tariff.specs.Meaning.{Meaning}
+use Rattle.plans.specs.Columns.{Card}
 use Rattle.plans.specs.Families.{LeftOf, Apart, Crosses, total, total_charge}
 use Rattle.plans.specs.Tolls.{Plan, worth, tolls_on}
 use Rattle.plans.proofs.Places.{pairwise_weaker, sides_uncrossed}
@@ -12,22 +13,22 @@ use Rattle.sheet.specs.declared.record.Toll.{Toll}
 use Rattle.sheet.specs.declared.state.State.{State}
 use Rattle.sheet.specs.declared.state.State.TheVariants.{Opening, Ended}
 use Rattle.sheet.specs.Records.{size, is_end, all_bytes}
-use Rattle.sheet.specs.Readings.{Reading, stops, ends, then, new_reader, reading}
+use Rattle.sheet.specs.Readings.{Reading, stops, ends, then, reading}
 use Rattle.sheet.specs.Runs.{run_from, run, placed}
 use Rattle.sheet.proofs.Runs.{lost_from}
 use Rattle.sheet.proofs.Turns.{InTurn, turns}
+use Rattle.verdict.specs.declared.fault.CardFault.{CardFault}
 use Rattle.verdict.specs.declared.fault.JudgeFault.{JudgeFault}
-use Rattle.verdict.specs.declared.fault.JudgeFault.TheVariants.{WrongSum}
-use Rattle.verdict.specs.declared.fault.JudgeFault.TheVariants.{Underpriced as TooCheap}
+use Rattle.verdict.specs.declared.fault.JudgeFault.TheVariants.{Card as OfCard}
 use Rattle.verdict.specs.Boards.{Board, card, Proper}
-use Rattle.verdict.specs.Judging.{Gathered, blank, checked, onward, gathered, toll_of, some_below_worth, adds_up, Accepted, settled, judged}
+use Rattle.verdict.specs.Judging.{Gathered, blank, checked, at_place, onward, gathered, toll_of, some_below_worth, adds_up, Accepted, settled, judged}
 use Rattle.verdict.specs.Sheets.{toll_list, records, sheet_of}
 use Rattle.verdict.specs.Theorems.{Bytes, LeftToRight}
-use Rattle.verdict.proofs.Advancing.{Valid, Linked, said, said_at, not_refused, answered-same, advance, finish}
+use Rattle.verdict.proofs.Advancing.{Valid, Linked, said, said_at, advance, finish}
 use Rattle.verdict.proofs.Boards.{ascending, narrow, within}
 use Rattle.verdict.proofs.Placing.{left_apart}
 use Rattle.verdict.proofs.TollLists.{listed_again, listed_allowed, down_sum}
-use Rattle.verdict.proofs.Verdicts.{unrefused, none-cheap}
+use Rattle.verdict.proofs.Verdicts.{none-cheap}
 
 -- what a reading was, of which something is gathered in the end: records in turn that say it
 record Closed (b : Board) (a : State) (at : ℕ) (g : Gathered) (q : Reading) (final : Gathered) : Type 0 where
@@ -43,7 +44,7 @@ pair_same g g' p p' e = let pair : ◌≡◌ {A = Gathered × ℕ} (g, p) (g', p
 
 module _ (b : Board) (proper : Proper b) where
   sound : (q : Reading) (a : State) (at : ℕ) (g final : Gathered) (p : ℕ) → InTurn a at q → Linked b a g → gathered b g q ≡ Ok (final, p) → Closed b a at g q final
-  sound (stops x) a at g final p t l e = let z : ◌≡◌ {A = ℕ} 0 1 = cc in absurd (omega arith)
+  sound (stops x) a at g final p t l e = absurd (cc)
   sound (ends q) a at g final p t l e =
       let f = finish b a Ended g l t.1 in
       let same : g ≡ final = pair_same g final q p e in
@@ -55,19 +56,18 @@ module _ (b : Board) (proper : Proper b) where
         legal = t.1;
         says = ap (λ (xs : List Record). xs ++ r.End ∷ []) f.says;
       })
-  sound (then q x more) a at g final p t l e = go (checked b g q x) refl (λ a' g'. sound more a' (at + size x) g' final p)
+  sound (then q x more) a at g final p t l e = go (checked b g x) refl (λ a' g'. sound more a' (at + size x) g' final p)
     where
-      go : (o : Result Gathered JudgeFault) → checked b g q x ≡ o →
+      go : (o : Result Gathered CardFault) → checked b g x ≡ o →
           ((a' : State) (g' : Gathered) → InTurn a' (at + size x) more → Linked b a' g' → gathered b g' more ≡ Ok (final, p) → Closed b a' (at + size x) g' more final) →
           Closed b a at g (then q x more) final
       go (Err f) c rest =
-          let wrong : ◌≡◌ {A = Result (Gathered × ℕ) JudgeFault} (Err f) (Ok (final, p)) = ap (onward (λ g'. gathered b g' more)) (sym c) ∙ e in
-          let z : ◌≡◌ {A = ℕ} 0 1 = cc in
-          absurd (omega arith)
+          let wrong : ◌≡◌ {A = Result (Gathered × ℕ) JudgeFault} (Err (OfCard f q)) (Ok (final, p)) = ap (λ o. onward (λ g'. gathered b g' more) (at_place q o)) (sym c) ∙ e in
+          absurd (cc)
       go (Ok g') c rest =
           let a' = t.2.0 in
-          let adv = advance b proper a g q x a' g' t.1 l t.2.1 c in
-          let tail = rest a' g' t.2.2 adv.linked (ap (onward (λ h. gathered b h more)) (sym c) ∙ e) in
+          let adv = advance b proper a g x a' g' t.1 l t.2.1 c in
+          let tail = rest a' g' t.2.2 adv.linked (ap (λ o. onward (λ h. gathered b h more) (at_place q o)) (sym c) ∙ e) in
           record {
             xs = x ∷ tail.xs;
             full = tail.full;
@@ -85,26 +85,24 @@ record Passed (b : Board) (m : Meaning) (bs : List ℕ) (a : Accepted) : Type 0 
   sum : adds_up (card b) m final ≡ true
   is : record { columns = final.columns; tolls = final.tolls } ≡ a
 
+settled-ok : (c : Card) (m : Meaning) (p : Gathered × ℕ) (a : Accepted) → settled c m (Ok p) ≡ Ok a →
+    (some_below_worth c m (toll_of p.0.tolls) ≡ false) × (adds_up c m p.0 ≡ true) × (record { columns = p.0.columns; tolls = p.0.tolls } ≡ a)
+settled-ok c m p a e = grind arith
+
 passed : (b : Board) (m : Meaning) (bs : List ℕ) (a : Accepted) → Proper b → judged b m bs ≡ Ok a → Passed b m bs a
 passed b m bs a proper e = go (gathered b blank (reading bs)) refl
   where
     go : (o : Result (Gathered × ℕ) JudgeFault) → gathered b blank (reading bs) ≡ o → Passed b m bs a
     go (Err x) q =
-        let wrong : ◌≡◌ {A = Result Accepted JudgeFault} (Err x) (Ok a) = ap (settled (card b) m) (sym q) ∙ e in
-        let z : ◌≡◌ {A = ℕ} 0 1 = cc in
-        absurd (omega arith)
+        let wrong : Err x ≡ Ok a = ap (settled (card b) m) (sym q) ∙ e in absurd (cc)
     go (Ok p) q =
-        let g = p.0 in
-        let says : Accepted = record { columns = g.columns; tolls = g.tolls } in
-        let end = ap (settled (card b) m) (sym q) ∙ e in
-        let p₁ = unrefused (some_below_worth (card b) m (toll_of g.tolls)) (TooCheap p.1) _ says a end in
-        let p₂ = not_refused (adds_up (card b) m g) (WrongSum p.1) None says a p₁.1 in
+        let s = settled-ok (card b) m p a (ap (settled (card b) m) (sym q) ∙ e) in
         record {
-          final = g;
-          closed = sound b proper (reading bs) Opening 0 blank g p.1 (turns new_reader bs) refl q;
-          price = p₁.0;
-          sum = p₂.0;
-          is = answered-same says a p₂.1;
+          final = p.0;
+          closed = sound b proper (reading bs) Opening 0 blank p.0 p.1 (turns Opening 0 bs) refl q;
+          price = s.0;
+          sum = s.1;
+          is = s.2;
         }
 
 said_all : (b : Board) (g : Gathered) → g.column ≡ [] → said b g ++ r.End ∷ [] ≡ records b g.columns g.tolls
@@ -129,7 +127,7 @@ sound_plan b m bs a proper u e =
     let again : g.tolls ≡ toll_list b toll = listed_again c (ascending b) (narrow b proper) g.tolls v.listed in
     let up = eqb-true (total (λ t. t.amount) g.tolls + total_charge c m g.columns) (worth * length g.columns) p.sum in
     let sum : total (λ t. t.amount) g.tolls ≡ tolls_on c.rows toll = ap (total (λ (t : Toll). t.amount)) again ∙ down_sum toll c.rows in
-    let lost : bs ≡ all_bytes w.xs = lost_from w.xs new_reader bs Ended u w.legal w.is in
+    let lost : bs ≡ all_bytes w.xs = lost_from w.xs Opening 0 bs Ended u w.legal w.is in
     let are : w.xs ≡ records b g.columns g.tolls = w.says ∙ said_all b g w.full in
     subst (Sound b m bs) p.is (record {
       plan = record {

@@ -2,7 +2,8 @@
 use Rattle.std.proofs.Common.{◌≡◌, ℕ, zero, suc, ◌<◌, ◌≤◌, true, cond, ◌&&◌, eqb, ltb, ◌⊎◌, List, [], ◌∷◌, sym, refl, ap, ◌∙◌, subst, inl, inr, arith}
 use Rattle.std.specs.List.{AllByRecursion}
 use Rattle.std.proofs.ByRecursion.{All-append, All-weaker}
-use Rattle.std.proofs.lemmas.Bool.{cases_Bool, cases_eq, cond-true, cond-false, cond_both, eqb-true, eq-eqb, ltb-true, lt-ltb, ltb-false, or_cases, or_left, or_right, and_parts, and_from, both_ways}
+use Rattle.std.proofs.lemmas.Bool.{cases_Bool, cases_eq, cond-true, cond-false, cond_both, eqb-true, eq-eqb, ltb-true, lt-ltb, ltb-false, and_parts, and_from, both_ways}
+use Rattle.std.proofs.lemmas.Bool.Decides.{nat_tests}
 use Rattle.tariff.specs.Meaning.{Meaning}
 use Rattle.plans.specs.Columns.{Card, Usable, row}
 use Rattle.plans.specs.Families.{Pairwise, total}
@@ -18,28 +19,16 @@ abbrev pub Before : Toll → Toll → Type 0
 Before d e = (d.row < e.row) ⊎ ((d.row ≡ e.row) × (d.column < e.column))
 
 pub before_true : (d e : Toll) → before d e ≡ true → Before d e
-before_true d e t = elim (or_cases (ltb d.row e.row) (eqb d.row e.row && ltb d.column e.column) t) [
-  | inl x ↦ inl (ltb-true d.row e.row x)
-  | inr x ↦ let p = and_parts (eqb d.row e.row) (ltb d.column e.column) x in
-      inr (eqb-true d.row e.row p.0, ltb-true d.column e.column p.1)
-]
+before_true d e t = grind (arith, nat_tests)
 
 pub true_before : (d e : Toll) → Before d e → before d e ≡ true
-true_before d e (inl l) = or_left (ltb d.row e.row) _ (lt-ltb d.row e.row l)
-true_before d e (inr p) =
-    or_right (ltb d.row e.row) _ (and_from _ _ (eq-eqb d.row e.row p.0) (lt-ltb d.column e.column p.1))
+true_before d e b = grind (arith, nat_tests)
 
 pub before_trans : (x y z : Toll) → Before x y → Before y z → Before x z
-before_trans x y z (inl l) (inl m) = inl (omega arith)
-before_trans x y z (inl l) (inr m) = inl (omega arith)
-before_trans x y z (inr l) (inl m) = inl (omega arith)
-before_trans x y z (inr l) (inr m) = inr (omega arith)
+before_trans x y z b c = grind arith
 
 before_strict : (x y : Toll) → Before x y → Before y x → ⊥
-before_strict x y (inl l) (inl m) = omega arith
-before_strict x y (inl l) (inr m) = omega arith
-before_strict x y (inr l) (inl m) = omega arith
-before_strict x y (inr l) (inr m) = omega arith
+before_strict x y b c = grind arith
 
 -- a toll with the same row, column and amount
 same-toll : (e : Toll) (r j v : ℕ) → e.row ≡ r → e.column ≡ j → e.amount ≡ v → e ≡ record { row = r; column = j; amount = v }
@@ -173,8 +162,7 @@ pub record Listed (c : Card) (es : List Toll) : Type 0 where
   pub each : AllByRecursion (Payable c) es
 
 some_or_none : (n : ℕ) → (0 < n) ⊎ (n ≡ 0)
-some_or_none zero = inr refl
-some_or_none (suc n) = inl (omega arith)
+some_or_none n = grind arith
 
 module _ (c : Card) (down : Pairwise ◌<◌ c.rows) (narrow : (r j : ℕ) → Usable c r j → j < 64) where
   -- such a list is the list of its own tolls

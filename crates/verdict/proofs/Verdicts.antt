@@ -1,22 +1,14 @@
 -- The two tests of a verdict, and what they say of tolls. Assumes nothing.
-use Rattle.std.proofs.Common.{◌≡◌, ℕ, Bool, true, false, ltb, Ok, Option, refl, ⊎_elim, arith}
+use Rattle.std.proofs.Common.{◌≡◌, ℕ, Bool, false, ltb, ⊎_elim, arith}
 use Rattle.std.proofs.lemmas.Bool.{cases_lt, not-false, not_from_true, ltb-false, le-ltb}
 use Rattle.masks.specs.Masks.{none}
 use Rattle.masks.proofs.Masks.{mask_empty}
-use Rattle.host.specs.Refusals.{refuse, answered}
 use Rattle.tariff.specs.Meaning.{Meaning}
 use Rattle.plans.specs.Columns.{Card, Within}
 use Rattle.plans.specs.Least.{least}
 use Rattle.plans.specs.Tolls.{Tolls, Underpriced, worth}
 use Rattle.plans.proofs.Leasts.{tells}
-use Rattle.verdict.specs.declared.fault.JudgeFault.{JudgeFault}
 use Rattle.verdict.specs.Judging.{some_below_worth}
-
--- a test that did not refuse
-pub unrefused : {A : Type 0} (t : Bool) (x : JudgeFault) (later : Option JudgeFault) (a a' : A) → answered (refuse t x later) a ≡ Ok a' →
-    (t ≡ false) × (answered later a ≡ Ok a')
-unrefused true x later a a' e = let z : ◌≡◌ {A = ℕ} 0 1 = cc in absurd (omega arith)
-unrefused false x later a a' e = (refl, e)
 
 -- some least price is below the worth exactly where some column is
 module _ (c : Card) (m : Meaning) (toll : Tolls) (within : Within c) where

@@ -16,7 +16,7 @@ use Rattle.sheet.specs.declared.record.Toll.{Toll}
 use Rattle.sheet.specs.Records.{bytes, size, all_bytes}
 use Rattle.sheet.specs.Runs.{Fits}
 use Rattle.sheet.proofs.Bodies.{length_bytes}
-use Rattle.sheet.proofs.Nexts.{bytes_under}
+use Rattle.sheet.proofs.Bodies.{bytes_under}
 use Rattle.verdict.specs.Boards.{card}
 use Rattle.verdict.specs.Sheets.{step_to, steps, column_records, toll_at, tolls_across, tolls_down, toll_list, records}
 use Rattle.verdict.specs.Theorems.{Bytes, SheetsAreShort}

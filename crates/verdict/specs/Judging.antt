@@ -14,8 +14,10 @@ use Rattle.sheet.specs.declared.record.Step.{Step}
 use Rattle.sheet.specs.declared.record.Step.TheVariants.{Left, Straight, Right}
 use Rattle.sheet.specs.declared.record.Toll.{Toll}
 use Rattle.sheet.specs.Readings.{Reading, stops, ends, then, reading}
+use Rattle.verdict.specs.declared.fault.CardFault.{CardFault}
+use Rattle.verdict.specs.declared.fault.CardFault.TheVariants.{OtherCard, OutsideHost, NotUsable, NotRight, TollPlace, TollOrder, TollAmount, Underpriced, WrongSum}
 use Rattle.verdict.specs.declared.fault.JudgeFault.{JudgeFault}
-use Rattle.verdict.specs.declared.fault.JudgeFault.TheVariants.{Sheet, OtherCard, OutsideHost, NotUsable, NotRight, TollPlace, TollOrder, TollAmount, Underpriced, WrongSum}
+use Rattle.verdict.specs.declared.fault.JudgeFault.TheVariants.{Sheet, Card as OfCard}
 use Rattle.verdict.specs.Boards.{Board, card}
 
 -- what is gathered of a sheet so far: the full columns, the PEs of a column that is not full, and the tolls
@@ -41,21 +43,21 @@ same_head b h = h.rows == b.rows && (h.columns == b.columns && h.standing == b.s
 abbrev pub with_pe : Board → Gathered → ℕ → Gathered
 with_pe b g j =
     cond (length (g.column ++ j ∷ []) == standing (card b))
-    (record { columns = g.columns ++ (g.column ++ j ∷ []) ∷ []; column = []; tolls = g.tolls })
-    (record { columns = g.columns; column = g.column ++ j ∷ []; tolls = g.tolls })
+    (record g { columns = g.columns ++ (g.column ++ j ∷ []) ∷ []; column = [] })
+    (record g { column = g.column ++ j ∷ [] })
 
 -- it is right of the preceding column's PE in that row
 abbrev pub right_of_last : Gathered → ℕ → Bool
 right_of_last g j = may_follow (λ a k. nat_lt (slice_index a (length g.column)) k) g.columns j
 
-abbrev pub pe_fault : Board → Gathered → ℕ → ℕ → Option JudgeFault
-pe_fault b g at j =
-    refuse (not (nat_lt (length g.column) (standing (card b)) && nat_lt j b.columns)) (OutsideHost at)
-    (refuse (not (b.usable (row (card b) (length g.column)) j)) (NotUsable at)
-    (refuse (not (right_of_last g j)) (NotRight at) None))
+abbrev pub pe_fault : Board → Gathered → ℕ → Option CardFault
+pe_fault b g j =
+    refuse (not (nat_lt (length g.column) (standing (card b)) && nat_lt j b.columns)) OutsideHost
+    (refuse (not (b.usable (row (card b) (length g.column)) j)) NotUsable
+    (refuse (not (right_of_last g j)) NotRight None))
 
-abbrev pub pe_checked : Board → Gathered → ℕ → ℕ → Result Gathered JudgeFault
-pe_checked b g at j = answered (pe_fault b g at j) (with_pe b g j)
+abbrev pub pe_checked : Board → Gathered → ℕ → Result Gathered CardFault
+pe_checked b g j = answered (pe_fault b g j) (with_pe b g j)
 
 -- where a step leads from physical column j: left of column 0 there is nothing
 abbrev pub stepped : Step → ℕ → Option ℕ
@@ -63,16 +65,16 @@ stepped Left j = cond (j == 0) None (Some (j - 1))
 stepped Straight j = Some j
 stepped Right j = Some (j + 1)
 
-abbrev pub step_checked : Board → Gathered → ℕ → Option ℕ → Result Gathered JudgeFault
-step_checked b g at None = Err (OutsideHost at)
-step_checked b g at (Some j) = pe_checked b g at j
+abbrev pub step_checked : Board → Gathered → Option ℕ → Result Gathered CardFault
+step_checked b g None = Err OutsideHost
+step_checked b g (Some j) = pe_checked b g j
 
 -- one toll before another, by row, then column
 abbrev pub before : Toll → Toll → Bool
 before d e = nat_lt d.row e.row || (d.row == e.row && nat_lt d.column e.column)
 
 abbrev pub with_toll : Gathered → Toll → Gathered
-with_toll g t = record { columns = g.columns; column = g.column; tolls = g.tolls ++ t ∷ [] }
+with_toll g t = record g { tolls = g.tolls ++ t ∷ [] }
 
 -- a toll is on a usable PE of a standing row, and is 1 to the worth
 abbrev pub tollable : Board → Toll → Bool
@@ -81,19 +83,24 @@ tollable b t = bit b.stand t.row && (nat_lt t.column b.columns && b.usable t.row
 abbrev pub payable : Toll → Bool
 payable t = nat_le 1 t.amount && nat_le t.amount worth
 
-abbrev pub toll_fault : Board → Gathered → ℕ → Toll → Option JudgeFault
-toll_fault b g at t =
-    refuse (not (tollable b t)) (TollPlace at)
-    (refuse (not (may_follow before g.tolls t)) (TollOrder at)
-    (refuse (not (payable t)) (TollAmount at) None))
+abbrev pub toll_fault : Board → Gathered → Toll → Option CardFault
+toll_fault b g t =
+    refuse (not (tollable b t)) TollPlace
+    (refuse (not (may_follow before g.tolls t)) TollOrder
+    (refuse (not (payable t)) TollAmount None))
 
--- one record, which stands at a place
-abbrev pub checked : Board → Gathered → ℕ → Record → Result Gathered JudgeFault
-checked b g at (r.Head h) = answered (refuse (not (same_head b h)) (OtherCard at) None) g
-checked b g at (r.Start j) = pe_checked b g at j
-checked b g at (r.Step s) = step_checked b g at (stepped s (last g.column))
-checked b g at (r.Toll t) = answered (toll_fault b g at t) (with_toll g t)
-checked b g at r.End = Ok g
+-- one record
+abbrev pub checked : Board → Gathered → Record → Result Gathered CardFault
+checked b g (r.Head h) = answered (refuse (not (same_head b h)) OtherCard None) g
+checked b g (r.Start j) = pe_checked b g j
+checked b g (r.Step s) = step_checked b g (stepped s (last g.column))
+checked b g (r.Toll t) = answered (toll_fault b g t) (with_toll g t)
+checked b g r.End = Ok g
+
+-- a fault has the place of the record that is at fault
+abbrev pub at_place : {A : Type 0} → ℕ → Result A CardFault → Result A JudgeFault
+at_place at (Ok a) = Ok a
+at_place at (Err x) = Err (OfCard x at)
 
 -- what a reading gives in the end, with the place of the end record; reading stops at the first fault
 abbrev pub onward : (Gathered → Result (Gathered × ℕ) JudgeFault) → Result Gathered JudgeFault → Result (Gathered × ℕ) JudgeFault
@@ -103,7 +110,7 @@ onward more (Ok g) = more g
 abbrev pub gathered : Board → Gathered → Reading → Result (Gathered × ℕ) JudgeFault
 gathered b g (stops x) = Err (Sheet x)
 gathered b g (ends at) = Ok (g, at)
-gathered b g (then at x more) = onward (λ g'. gathered b g' more) (checked b g at x)
+gathered b g (then at x more) = onward (λ g'. gathered b g' more) (at_place at (checked b g x))
 
 -- the toll of each PE: 0 where it is given none
 abbrev pub toll_of : List Toll → Tolls
@@ -123,13 +130,12 @@ pub record Accepted : Type 0 where
   pub columns : List (List ℕ)
   pub tolls : List Toll
 
-abbrev pub verdict_fault : Card → Meaning → Gathered → ℕ → Option JudgeFault
-verdict_fault c m g at =
-    refuse (some_below_worth c m (toll_of g.tolls)) (Underpriced at) (refuse (not (adds_up c m g)) (WrongSum at) None)
+abbrev pub verdict_fault : Card → Meaning → Gathered → Option CardFault
+verdict_fault c m g = refuse (some_below_worth c m (toll_of g.tolls)) Underpriced (refuse (not (adds_up c m g)) WrongSum None)
 
 abbrev pub settled : Card → Meaning → Result (Gathered × ℕ) JudgeFault → Result Accepted JudgeFault
 settled c m (Err x) = Err x
-settled c m (Ok p) = answered (verdict_fault c m p.0 p.1) (record { columns = p.0.columns; tolls = p.0.tolls })
+settled c m (Ok p) = at_place p.1 (answered (verdict_fault c m p.0) (record { columns = p.0.columns; tolls = p.0.tolls }))
 
 -- what comes of the bytes of a sheet
 abbrev pub judged : Board → Meaning → List ℕ → Result Accepted JudgeFault
