@@ -31,10 +31,12 @@ pub fn apply(
             *book = Some(Book::open(size, Links));
             Ok(Answer::Done)
         }
-        Record::Call(asked) => match book.as_mut() {
-            Some(open) => call(open, asked),
-            None => Err(Refusal::OutOfTurn),
-        },
+        Record::Call(asked) => {
+            let Some(open) = book else {
+                return Err(Refusal::OutOfTurn);
+            };
+            call(open, asked)
+        }
     }
 }
 
