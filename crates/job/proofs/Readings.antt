@@ -4,13 +4,12 @@ use Rattle.std.proofs.lemmas.List.{drop_more, drop_all}
 use Rattle.std.proofs.lemmas.Bool.{cond_both}
 use Rattle.std.specs.List.{flat_map}
 use Rattle.host.specs.declared.Host.{Host}
-use Rattle.job.specs.declared.card.Answer.{Answer}
 use Rattle.job.specs.declared.record.Entry.{Entry}
 use Rattle.job.specs.declared.record.Kind.{Kind}
 use Rattle.job.specs.declared.record.Record.{Record}
 use Rattle.job.specs.declared.refusal.Refusal.{Refusal}
 use Rattle.job.specs.Records.{Reading, Item, kind_of, body_length, reading, items_by, items, ReadAt}
-use Rattle.job.specs.Lines.{outcome_of, line, lines, text, told_from}
+use Rattle.job.specs.Lines.{Reply, outcome_of, line, lines, text, told_from}
 
 -- what is left after an item is no longer than what came after its kind
 pub rest_short : (o : Option Kind) (bs : List ℕ) → length (reading o bs).rest ≤ length bs
@@ -64,7 +63,7 @@ pub told-more : (map : Option Host) (b : ℕ) (bs : List ℕ) →
 told-more map b bs = ap (λ is. flat_map text (lines map is)) (items-more b bs) ∙ ap (flat_map text) (lines-more map (item b bs) _)
 
 -- the same at a place of a job, by what the code reads there and what is answered
-pub told_at : (map after : Option Host) (job : List ℕ) (at : ℕ) (e : Entry) (reply : Result Answer Refusal) → at < length job → ReadAt job at e →
+pub told_at : (map after : Option Host) (job : List ℕ) (at : ℕ) (e : Entry) (reply : Reply) → at < length job → ReadAt job at e →
     reply ≡ (outcome_of map e.content).reply → after ≡ (outcome_of map e.content).map →
     text (line e.kind reply) ++ told_from after (drop e.next job) ≡ told_from map (drop at job)
 told_at map after job at e reply h r answered left =

@@ -12,8 +12,6 @@ use Rattle.tariff.specs.Kinds.{links}
 use Rattle.book.specs.declared.Book.{Book}
 use Rattle.book.specs.declared.refusal.Refusal.{Refusal as BookRefusal}
 use Rattle.book.specs.Calls.{by_card, greedy_answer}
-use Rattle.job.specs.declared.card.Answer.{Answer}
-use Rattle.job.specs.declared.card.Answer.TheVariants.{Done, Counts}
 use Rattle.job.specs.declared.record.Call.{Call}
 use Rattle.job.specs.declared.record.Call.TheVariants.{Mark, Choose, Greedy}
 use Rattle.job.specs.declared.record.Record.{Record}
@@ -27,26 +25,30 @@ use Rattle.job.specs.Records.{Item, items}
 abbrev pub map_of : Book Links → Host
 map_of b = b.host
 
+-- what a record is answered: a number of columns and their total charge, where it asks for them, or why it is refused
+abbrev pub Reply : Type 0
+Reply = Result (Option (ℕ × ℕ)) Refusal
+
 -- what a record is answered, and the map after it, where there is a card
 pub record Outcome : Type 0 where
-  pub reply : Result Answer Refusal
+  pub reply : Reply
   pub map : Option Host
 
 -- an accepted size opens a new card; a refused one keeps the card before it
 abbrev pub sized : Option Host → Result CardSize CardRefusal → Outcome
-sized map (Ok z) = record { reply = Ok Done; map = Some (opened z) }
+sized map (Ok z) = record { reply = Ok None; map = Some (opened z) }
 sized map (Err x) = record { reply = Err (SizeRefused x); map = map }
 
-abbrev pub done : Result (Unit {0}) BookRefusal → Result Answer Refusal
-done (Ok nothing) = Ok Done
+abbrev pub done : Result (Unit {0}) BookRefusal → Reply
+done (Ok nothing) = Ok None
 done (Err x) = Err (BookRefused x)
 
-abbrev pub counted : Result (ℕ × ℕ) BookRefusal → Result Answer Refusal
-counted (Ok p) = Ok (Counts p.0 p.1)
+abbrev pub counted : Result (ℕ × ℕ) BookRefusal → Reply
+counted (Ok p) = Ok (Some p)
 counted (Err x) = Err (BookRefused x)
 
 -- a call on a card, by the book's own words; greedy has room for the columns of any card
-abbrev pub answered_by : Host → Call → Result Answer Refusal
+abbrev pub answered_by : Host → Call → Reply
 answered_by h (Mark p s) = done (by_card (answer h (marking p s)))
 answered_by h (Choose i s) = done (by_card (answer h (choosing i s)))
 answered_by h Greedy = counted (greedy_answer h links 4096)
@@ -72,9 +74,9 @@ outcome_of map (Err x) = record { reply = Err x; map = map }
 
 pub record Line : Type 0 where
   pub kind : ℕ
-  pub reply : Result Answer Refusal
+  pub reply : Reply
 
-abbrev pub line : ℕ → Result Answer Refusal → Line
+abbrev pub line : ℕ → Reply → Line
 line kind reply = record { kind = kind; reply = reply }
 
 -- a line for each item, on the map that those before it left
@@ -90,11 +92,11 @@ refused n = codes "no " ++ decimal n ++ 10 ∷ []
 abbrev pub counts : ℕ → ℕ → List ℕ
 counts columns total = decimal columns ++ 32 ∷ [] ++ decimal total ++ 10 ∷ []
 
-abbrev pub told : Answer → List ℕ
-told Done = codes "ok" ++ 10 ∷ []
-told (Counts columns total) = counts columns total
+abbrev pub told : Option (ℕ × ℕ) → List ℕ
+told None = codes "ok" ++ 10 ∷ []
+told (Some p) = counts p.0 p.1
 
-abbrev pub said : Result Answer Refusal → List ℕ
+abbrev pub said : Reply → List ℕ
 said (Ok a) = told a
 said (Err x) = refused (number x)
 

@@ -4,8 +4,7 @@ ghost use Rattle.std.specs.Fmt.{digit_glyph};
 ghost use Rattle.job.specs.Lines.{line, counts, told, refused, text};
 ghost use Rattle.job.specs.Pages.{Laid};
 
-use crate::card::Answer;
-use crate::refusal::Refusal;
+use crate::card::Reply;
 
 /// Puts one byte. Like each function below, it answers the place behind what it put.
 fn put(page: &mut [u8], at: usize, byte: u8) -> usize
@@ -76,19 +75,19 @@ fn put_counts(page: &mut [u8], at: usize, columns: u32, total: u32) -> usize
     put(page, next, b'\n')
 }
 
-fn put_answer(page: &mut [u8], at: usize, answer: Answer) -> usize
+fn put_answer(page: &mut [u8], at: usize, answer: Option<(u32, u32)>) -> usize
     requires { at + 22 < 2 ^ 64 }
     ensures laid { Laid page.old at (told answer) page.new result }
     ensures short { result ≤ at + 22 }
 {
     match answer {
-        Answer::Done => put_all(page, at, b"ok\n"),
-        Answer::Counts(columns, total) => put_counts(page, at, columns, total),
+        None => put_all(page, at, b"ok\n"),
+        Some((columns, total)) => put_counts(page, at, columns, total),
     }
 }
 
 /// Puts the line of a record.
-pub fn put_line(page: &mut [u8], at: usize, kind: u8, reply: Result<Answer, Refusal>) -> usize
+pub fn put_line(page: &mut [u8], at: usize, kind: u8, reply: Reply) -> usize
     requires { at + 25 < 2 ^ 64 }
     ensures laid { Laid page.old at (text (line kind reply)) page.new result }
     ensures short { result ≤ at + 25 }
