@@ -3,12 +3,14 @@ use Rattle.std.specs.Prelude.{◌≡◌, ℕ, List, [], ◌∷◌, ◌++◌, map
 use Rattle.std.specs.List.{flat_map}
 use Rattle.host.specs.declared.Host.{Host}
 use Rattle.host.specs.declared.part.Part.TheVariants.{Pe, RowSwitch, ColumnSwitch}
+use Rattle.job.specs.declared.line.Line.{Line}
 use Rattle.job.specs.declared.record.Record.{Record}
 use Rattle.job.specs.declared.record.Call.TheVariants.{Mark, Choose, Greedy}
 use Rattle.job.specs.declared.record.Record.TheVariants.{Size, Call}
 use Rattle.job.specs.declared.refusal.Refusal.{Refusal}
-use Rattle.job.specs.Records.{Item, items}
-use Rattle.job.specs.Lines.{Line, outcome_of, line, lines, told_from, listing}
+use Rattle.job.specs.declared.record.Entry.{Entry}
+use Rattle.job.specs.Records.{entries}
+use Rattle.job.specs.Lines.{outcome_of, line, lines, told_from, listing}
 
 -- a record as it is written: its kind and its body
 abbrev pub kind : Record → ℕ
@@ -31,27 +33,27 @@ abbrev pub bytes : List Record → List ℕ
 bytes rs = flat_map (λ r. kind r ∷ body r) rs
 
 -- a record that is read whole
-abbrev pub whole : Record → Item
+abbrev pub whole : Record → Entry
 whole r = record { kind = kind r; content = Ok r }
 
--- the map that items leave
-unfoldable pub map_left : Option Host → List Item → Option Host
+-- the map that entries leave
+unfoldable pub map_left : Option Host → List Entry → Option Host
 map_left before [] = before
 map_left before (i ∷ is) = map_left (outcome_of before i.content).map is
 
 pub record Laws : Type 0 where
   -- records written one behind the other are read as those records
-  pub reads : (rs : List Record) (more : List ℕ) → items (bytes rs ++ more) ≡ map whole rs ++ items more
+  pub reads : (rs : List Record) (more : List ℕ) → entries (bytes rs ++ more) ≡ map whole rs ++ entries more
   -- a job in which nothing is wrong is its records and nothing else
-  pub nothing_lost : (job : List ℕ) (rs : List Record) → items job ≡ map whole rs → job ≡ bytes rs
+  pub nothing_lost : (job : List ℕ) (rs : List Record) → entries job ≡ map whole rs → job ≡ bytes rs
   -- what cannot be read ends the reading
-  pub fault_last : (job : List ℕ) (is js : List Item) (i : Item) (x : Refusal) → items job ≡ is ++ i ∷ js → i.content ≡ Err x → js ≡ []
+  pub fault_last : (job : List ℕ) (is js : List Entry) (i : Entry) (x : Refusal) → entries job ≡ is ++ i ∷ js → i.content ≡ Err x → js ≡ []
   -- one line for each item, with its kind
-  pub one_each : (before : Option Host) (is : List Item) → map (λ (l : Line). l.kind) (lines before is) ≡ map (λ (i : Item). i.kind) is
-  -- lines depend only on the items up to them
-  pub in_order : (before : Option Host) (is js : List Item) → lines before (is ++ js) ≡ lines before is ++ lines (map_left before is) js
+  pub one_each : (before : Option Host) (is : List Entry) → map (λ (l : Line). l.kind) (lines before is) ≡ map (λ (i : Entry). i.kind) is
+  -- lines depend only on the entries up to them
+  pub in_order : (before : Option Host) (is js : List Entry) → lines before (is ++ js) ≡ lines before is ++ lines (map_left before is) js
   -- a refused item changes no later line
-  pub refused_silent : (before : Option Host) (is js : List Item) (i : Item) (x : Refusal) → (outcome_of (map_left before is) i.content).reply ≡ Err x →
+  pub refused_silent : (before : Option Host) (is js : List Entry) (i : Entry) (x : Refusal) → (outcome_of (map_left before is) i.content).reply ≡ Err x →
       lines before (is ++ i ∷ js) ≡ lines before is ++ line i.kind (Err x) ∷ lines (map_left before is) js
   -- the listing of a longer job begins with the listing of the shorter
   pub prefix : (rs : List Record) (more : List ℕ) → listing (bytes rs ++ more) ≡ listing (bytes rs) ++ told_from (map_left None (map whole rs)) more

@@ -12,14 +12,16 @@ use Rattle.tariff.specs.Kinds.{links}
 use Rattle.book.specs.declared.Book.{Book}
 use Rattle.book.specs.declared.refusal.Refusal.{Refusal as BookRefusal}
 use Rattle.book.specs.Calls.{by_card, greedy_answer}
+use Rattle.job.specs.declared.line.Line.{Line}
 use Rattle.job.specs.declared.record.Call.{Call}
 use Rattle.job.specs.declared.record.Call.TheVariants.{Mark, Choose, Greedy}
+use Rattle.job.specs.declared.record.Entry.{Entry}
 use Rattle.job.specs.declared.record.Record.{Record}
 use Rattle.job.specs.declared.record.Record.TheVariants.{Size, Call as Asks}
 use Rattle.job.specs.declared.refusal.Refusal.{Refusal}
 use Rattle.job.specs.declared.refusal.Refusal.TheVariants.{Size as SizeRefused, Book as BookRefused, OutOfTurn}
 use Rattle.job.specs.Refusals.{number}
-use Rattle.job.specs.Records.{Item, items}
+use Rattle.job.specs.Records.{entries}
 
 -- the map of a book; a job's books all charge by links
 abbrev pub map_of : Book Links → Host
@@ -72,41 +74,34 @@ abbrev pub outcome_of : Option Host → Result Record Refusal → Outcome
 outcome_of map (Ok r) = outcome map r
 outcome_of map (Err x) = record { reply = Err x; map = map }
 
-pub record Line : Type 0 where
-  pub kind : ℕ
-  pub reply : Reply
-
 abbrev pub line : ℕ → Reply → Line
 line kind reply = record { kind = kind; reply = reply }
 
--- a line for each item, on the map that those before it left
-unfoldable pub lines : Option Host → List Item → List Line
+-- a line for each entry, on the map that those before it left
+unfoldable pub lines : Option Host → List Entry → List Line
 lines map [] = []
-lines map (i ∷ is) = let o = outcome_of map i.content in line i.kind o.reply ∷ lines o.map is
+lines map (e ∷ es) = let o = outcome_of map e.content in line e.kind o.reply ∷ lines o.map es
 
 -- what is told of a refusal
 abbrev pub refused : ℕ → List ℕ
-refused n = codes "no " ++ decimal n ++ 10 ∷ []
+refused n = codes "no " ++ decimal n ++ codes "\n"
 
 -- what is told of columns: their number and total charge
 abbrev pub counts : ℕ → ℕ → List ℕ
-counts columns total = decimal columns ++ 32 ∷ [] ++ decimal total ++ 10 ∷ []
-
-abbrev pub told : Option (ℕ × ℕ) → List ℕ
-told None = codes "ok" ++ 10 ∷ []
-told (Some p) = counts p.0 p.1
+counts columns total = decimal columns ++ codes " " ++ decimal total ++ codes "\n"
 
 abbrev pub said : Reply → List ℕ
-said (Ok a) = told a
+said (Ok None) = codes "ok\n"
+said (Ok (Some p)) = counts p.0 p.1
 said (Err x) = refused (number x)
 
--- a line: the kind in two capital hexadecimal digits, a space, what is said, and byte 0A
+-- a line: the kind in two capital hexadecimal digits, a space, and what is said
 abbrev pub text : Line → List ℕ
-text l = (digit_glyph true (l.kind / 16) ∷ digit_glyph true (l.kind % 16) ∷ 32 ∷ []) ++ said l.reply
+text l = digit_glyph true (l.kind / 16) ∷ digit_glyph true (l.kind % 16) ∷ codes " " ++ said l.reply
 
 -- what is told of the bytes of a job, from a map on
 abbrev pub told_from : Option Host → List ℕ → List ℕ
-told_from map job = flat_map text (lines map (items job))
+told_from map job = flat_map text (lines map (entries job))
 
 -- the listing of a whole job
 abbrev pub listing : List ℕ → List ℕ

@@ -1,5 +1,5 @@
 -- How the bytes of a job are read. Assumes nothing.
-use Rattle.std.specs.Prelude.{◌≡◌, ℕ, zero, suc, ◌+◌, ◌<◌, ◌≤◌, cond, List, [], ◌∷◌, length, drop, Some, None, Ok, Err, Option, Result, ◌==◌, nat_lt, slice_index}
+use Rattle.std.specs.Prelude.{ℕ, zero, suc, cond, List, [], ◌∷◌, length, drop, Ok, Err, Result, ◌==◌, nat_lt, slice_index}
 use Rattle.host.specs.declared.part.Part.TheVariants.{Pe, RowSwitch, ColumnSwitch}
 use Rattle.job.specs.declared.record.Entry.{Entry}
 use Rattle.job.specs.declared.record.Kind.{Kind}
@@ -11,14 +11,14 @@ use Rattle.job.specs.declared.refusal.Refusal.{Refusal}
 use Rattle.job.specs.declared.refusal.Refusal.TheVariants.{UnknownKind, CutShort}
 
 -- 10 to 14 and 16, in hexadecimal digits
-abbrev pub kind_of : ℕ → Option Kind
+abbrev pub kind_of : ℕ → Result Kind Refusal
 kind_of b =
-    cond (b == 16) (Some SizeKind)
-    (cond (b == 17) (Some MarkPe)
-    (cond (b == 18) (Some MarkRowSwitch)
-    (cond (b == 19) (Some MarkColumnSwitch)
-    (cond (b == 20) (Some ChooseKind)
-    (cond (b == 22) (Some GreedyKind) None)))))
+    cond (b == 16) (Ok SizeKind)
+    (cond (b == 17) (Ok MarkPe)
+    (cond (b == 18) (Ok MarkRowSwitch)
+    (cond (b == 19) (Ok MarkColumnSwitch)
+    (cond (b == 20) (Ok ChooseKind)
+    (cond (b == 22) (Ok GreedyKind) (Err UnknownKind))))))
 
 abbrev pub body_length : Kind → ℕ
 body_length SizeKind = 2
@@ -37,36 +37,26 @@ record_of MarkColumnSwitch bs = Call (Mark (ColumnSwitch (slice_index bs 0) (sli
 record_of ChooseKind bs = Call (Choose (slice_index bs 0) (slice_index bs 1))
 record_of GreedyKind bs = Call Greedy
 
--- what is read: a record or its fault, and the bytes after it; a fault ends the reading
-pub record Reading : Type 0 where
-  pub content : Result Record Refusal
-  pub rest : List ℕ
+-- the record that a kind begins, and the bytes after it
+abbrev pub reading : Result Kind Refusal → List ℕ → Result (Record × List ℕ) Refusal
+reading (Err x) bs = Err x
+reading (Ok k) bs = cond (nat_lt (length bs) (body_length k)) (Err CutShort) (Ok (record_of k bs, drop (body_length k) bs))
 
-abbrev pub reading : Option Kind → List ℕ → Reading
-reading None bs = record { content = Err UnknownKind; rest = [] }
-reading (Some k) bs =
-    cond (nat_lt (length bs) (body_length k)) (record { content = Err CutShort; rest = [] })
-    (record { content = Ok (record_of k bs); rest = drop (body_length k) bs })
+-- an entry by its kind and what was read of it
+abbrev pub entry : ℕ → Result (Record × List ℕ) Refusal → Entry
+entry b (Ok p) = record { kind = b; content = Ok p.0 }
+entry b (Err x) = record { kind = b; content = Err x }
 
--- a byte of kind, with the record that it begins or the fault
-pub record Item : Type 0 where
-  pub kind : ℕ
-  pub content : Result Record Refusal
+-- where to read on; a fault ends the reading
+abbrev pub behind : Result (Record × List ℕ) Refusal → List ℕ
+behind (Ok p) = p.1
+behind (Err x) = []
 
--- the items of at most n bytes (each takes one byte or more)
-unfoldable pub items_by : ℕ → List ℕ → List Item
-items_by zero bs = []
-items_by (suc n) [] = []
-items_by (suc n) (b ∷ bs) =
-    let r = reading (kind_of b) bs in record { kind = b; content = r.content } ∷ items_by n r.rest
+-- the entries of at most n bytes (each takes one byte or more)
+unfoldable pub entries_by : ℕ → List ℕ → List Entry
+entries_by zero bs = []
+entries_by (suc n) [] = []
+entries_by (suc n) (b ∷ bs) = let r = reading (kind_of b) bs in entry b r ∷ entries_by n (behind r)
 
-abbrev pub items : List ℕ → List Item
-items job = items_by (length job) job
-
--- what the code reads at a place of a job
-pub record ReadAt (job : List ℕ) (at : ℕ) (e : Entry) : Type 0 where
-  pub kind : e.kind ≡ slice_index job at
-  pub content : e.content ≡ (reading (kind_of (slice_index job at)) (drop (at + 1) job)).content
-  pub rest : drop e.next job ≡ (reading (kind_of (slice_index job at)) (drop (at + 1) job)).rest
-  pub forward : at < e.next
-  pub within : e.next ≤ length job
+abbrev pub entries : List ℕ → List Entry
+entries job = entries_by (length job) job

@@ -1,6 +1,8 @@
 //! The records of a job: a byte of kind, and a body whose length the kind fixes.
-ghost use Rattle.std.specs.Prelude.{◌≡◌, ◌+◌, ◌<◌, ◌≤◌, length};
-ghost use Rattle.job.specs.Records.{kind_of, body_length, record_of, ReadAt};
+ghost use Rattle.std.specs.Prelude.{◌≡◌, ◌≤◌, length};
+ghost use Rattle.std.specs.Result.{result_map_both};
+ghost use Rattle.std.specs.Iterator.{YieldsFirst, item_count};
+ghost use Rattle.job.specs.Records.{kind_of, body_length, record_of, reading, entries};
 
 use crate::refusal::Refusal;
 use host::part::Part;
@@ -32,29 +34,36 @@ pub enum Record {
     Call(Call),
 }
 
-/// What stands at a place of a job: a byte of kind with its record or what is wrong with it, and where to read on.
+/// A byte of kind, with the record that it begins or what is wrong with it.
 #[derive(Clone, Copy)]
 pub struct Entry {
     pub kind: u8,
     pub content: Result<Record, Refusal>,
-    pub next: usize,
+}
+
+/// The entries that are left of a job.
+#[derive(Drop)]
+pub struct Entries<'a>(pub &'a [u8]);
+
+impl TryFrom<u8> for Kind {
+    type Error = Refusal;
+
+    ghost try_from_gives = { λ byte r. r ≡ kind_of byte };
+
+    fn try_from(byte: u8) -> Result<Kind, Refusal> {
+        match byte {
+            0x10 => Ok(Kind::Size),
+            0x11 => Ok(Kind::MarkPe),
+            0x12 => Ok(Kind::MarkRowSwitch),
+            0x13 => Ok(Kind::MarkColumnSwitch),
+            0x14 => Ok(Kind::Choose),
+            0x16 => Ok(Kind::Greedy),
+            _ => Err(Refusal::UnknownKind),
+        }
+    }
 }
 
 impl Kind {
-    pub fn of(byte: u8) -> Option<Kind>
-        ensures { result ≡ kind_of byte }
-    {
-        match byte {
-            0x10 => Some(Kind::Size),
-            0x11 => Some(Kind::MarkPe),
-            0x12 => Some(Kind::MarkRowSwitch),
-            0x13 => Some(Kind::MarkColumnSwitch),
-            0x14 => Some(Kind::Choose),
-            0x16 => Some(Kind::Greedy),
-            _ => None,
-        }
-    }
-
     pub fn body_length(self) -> usize
         ensures { result ≡ body_length self }
     {
@@ -87,33 +96,32 @@ impl Kind {
     }
 }
 
-impl Entry {
-    /// Reads what stands at a place before the end of a job.
-    pub fn read(job: &[u8], at: usize) -> Entry
-        requires { at < length job.now }
-        ensures { ReadAt job.now at result }
-    {
-        let kind = job[at];
-        let start = at + 1;
-        let Some(known) = Kind::of(kind) else {
-            return Entry {
-                kind,
-                content: Err(Refusal::UnknownKind),
-                next: job.len(),
-            };
-        };
-        if job.len() - start < known.body_length() {
-            return Entry {
-                kind,
-                content: Err(Refusal::CutShort),
-                next: job.len(),
-            };
-        }
-        let content = Ok(known.read(&job[start..]));
-        Entry {
-            kind,
-            content,
-            next: start + known.body_length(),
-        }
+/// The record that a byte of kind begins, and the bytes behind it.
+#[tactic(auto, using(crate::proofs::Readings::record_in_front))]
+fn read(kind: u8, bytes: &[u8]) -> Result<(Record, &[u8]), Refusal>
+    ensures { result_map_both (λ p. (p.0, p.1.now)) (λ x. x) result ≡ reading (kind_of kind) bytes.now }
+{
+    let kind = Kind::try_from(kind)?;
+    let (body, rest) = bytes
+        .split_at_checked(kind.body_length())
+        .ok_or(Refusal::CutShort)?;
+    Ok((kind.read(body), rest))
+}
+
+impl<'a> Iterator for Entries<'a> {
+    type Item = Entry;
+
+    ghost next_gives = { YieldsFirst (λ s. entries s.0.now) };
+
+    ghost remaining = { item_count (λ s. entries s.0.now) };
+
+    #[tactic(auto, using(crate::proofs::Readings::entries_none, crate::proofs::Readings::entries_more))]
+    fn next(&mut self) -> Option<Entry> {
+        let (&kind, bytes) = self.0.split_first()?;
+        let reading = read(kind, bytes);
+        // nothing is read behind a fault
+        self.0 = reading.map_or(&[], |(_, rest)| rest);
+        let content = reading.map(|(record, _)| record);
+        Some(Entry { kind, content })
     }
 }
