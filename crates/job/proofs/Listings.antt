@@ -1,6 +1,7 @@
 -- Listings of lists of entries, and of records as they are written. Assumes nothing.
-use Rattle.std.proofs.Common.{◌≡◌, ℕ, ◌≤◌, ltb, List, [], ◌∷◌, ◌++◌, map, length, get_or, drop, Some, None, Ok, Err, Option, Result, sym, refl, ap, ◌∙◌, ap₂, append_assoc, append-nil, arith}
+use Rattle.std.proofs.Common.{◌≡◌, ℕ, ◌+◌, ◌≤◌, take, ltb, List, [], ◌∷◌, ◌++◌, map, length, drop, Some, None, Ok, Err, Option, Result, sym, refl, ap, ◌∙◌, ap₂, append_assoc, append-nil, arith}
 use Rattle.std.proofs.lemmas.Bool.{cond-false, cond_both, le-ltb, ltb-false}
+use Rattle.std.proofs.lemmas.Grind.{flat_map-append}
 use Rattle.std.specs.List.{flat_map}
 use Rattle.host.specs.declared.Host.{Host}
 use Rattle.host.specs.declared.refusal.Refusal.{Refusal as CardRefusal}
@@ -9,6 +10,7 @@ use Rattle.host.specs.Sizes.{tested}
 use Rattle.host.specs.Refusals.{answered, unless}
 use Rattle.host.specs.Changes.{marking, choosing, refusal, set_by}
 use Rattle.host.specs.declared.part.Part.TheVariants.{Pe, RowSwitch, ColumnSwitch}
+use Rattle.records.specs.Records.{with_body}
 use Rattle.job.specs.declared.record.Entry.{Entry}
 use Rattle.job.specs.declared.line.Line.{Line}
 use Rattle.job.specs.declared.record.Kind.{Kind}
@@ -18,58 +20,47 @@ use Rattle.job.specs.declared.record.Call.TheVariants.{Mark, Choose, Greedy}
 use Rattle.job.specs.declared.record.Record.{Record}
 use Rattle.job.specs.declared.record.Record.TheVariants.{Size, Call as Asks}
 use Rattle.job.specs.declared.refusal.Refusal.{Refusal}
-use Rattle.job.specs.Records.{kind_of, body_length, record_of, reading, entry, behind, entries}
+use Rattle.job.specs.Records.{kind_of, body_length, record_of, record_and_rest, reading, content, behind, entries_by, entries}
 use Rattle.book.specs.Calls.{by_card}
 use Rattle.job.specs.Lines.{sized, done, answered_by, map_after, outcome_of, line, lines, text, told_from, listing}
 use Rattle.job.specs.Laws.{kind, body, bytes, whole, map_left}
-use Rattle.job.proofs.Readings.{entries_none, entries_more}
+use Rattle.job.proofs.Readings.{entry, entries_more}
 
 -- a body that is long enough makes a record
-complete : (k : Kind) (bs : List ℕ) → body_length k ≤ length bs → reading (Ok k) bs ≡ Ok (record_of k bs, drop (body_length k) bs)
-complete k bs h = cond-false _ _ _ (le-ltb (length bs) (body_length k) h)
+complete : (b : ℕ) (k : Kind) (bs : List ℕ) → kind_of b ≡ Some k → body_length k ≤ length bs → reading (b ∷ bs) ≡ record_and_rest (b ∷ bs) (Ok (k, take (body_length k) bs))
+complete b k bs e h = ap (record_and_rest (b ∷ bs)) (ap (with_body body_length 0 bs) e ∙ cond-false _ _ _ (le-ltb (length bs) (body_length k) h))
 
-read_back : (r : Record) (more : List ℕ) → reading (kind_of (kind r)) (body r ++ more) ≡ Ok (r, more)
-read_back (Size rows columns) more = complete SizeKind (rows ∷ columns ∷ more) (omega arith)
-read_back (Asks (Mark (Pe i j) s)) more = complete MarkPe (i ∷ j ∷ s ∷ more) (omega arith)
-read_back (Asks (Mark (RowSwitch i j) s)) more = complete MarkRowSwitch (i ∷ j ∷ s ∷ more) (omega arith)
-read_back (Asks (Mark (ColumnSwitch i j) s)) more = complete MarkColumnSwitch (i ∷ j ∷ s ∷ more) (omega arith)
-read_back (Asks (Choose i s)) more = complete ChooseKind (i ∷ s ∷ more) (omega arith)
-read_back (Asks Greedy) more = complete GreedyKind more (omega arith)
-
-two : (bs : List ℕ) → 2 ≤ length bs → bs ≡ get_or bs 0 0 ∷ get_or bs 1 0 ∷ drop 2 bs
-two [] h = absurd (omega arith)
-two (x ∷ []) h = absurd (omega arith)
-two (x ∷ y ∷ more) h = refl
-
-three : (bs : List ℕ) → 3 ≤ length bs → bs ≡ get_or bs 0 0 ∷ get_or bs 1 0 ∷ get_or bs 2 0 ∷ drop 3 bs
-three [] h = absurd (omega arith)
-three (x ∷ []) h = absurd (omega arith)
-three (x ∷ y ∷ []) h = absurd (omega arith)
-three (x ∷ y ∷ z ∷ more) h = refl
+read_back : (r : Record) (more : List ℕ) → reading (kind r ∷ body r ++ more) ≡ Ok (r, more)
+read_back (Size rows columns) more = complete 16 SizeKind (rows ∷ columns ∷ more) refl (omega arith)
+read_back (Asks (Mark (Pe i j) s)) more = complete 17 MarkPe (i ∷ j ∷ s ∷ more) refl (omega arith)
+read_back (Asks (Mark (RowSwitch i j) s)) more = complete 18 MarkRowSwitch (i ∷ j ∷ s ∷ more) refl (omega arith)
+read_back (Asks (Mark (ColumnSwitch i j) s)) more = complete 19 MarkColumnSwitch (i ∷ j ∷ s ∷ more) refl (omega arith)
+read_back (Asks (Choose i s)) more = complete 20 ChooseKind (i ∷ s ∷ more) refl (omega arith)
+read_back (Asks Greedy) more = complete 22 GreedyKind more refl (omega arith)
 
 -- a record that was read is as it is written
-body_first : (k : Kind) (bs : List ℕ) → body_length k ≤ length bs → bs ≡ body (record_of k bs) ++ drop (body_length k) bs
-body_first SizeKind bs h = two bs h
-body_first MarkPe bs h = three bs h
-body_first MarkRowSwitch bs h = three bs h
-body_first MarkColumnSwitch bs h = three bs h
-body_first ChooseKind bs h = two bs h
-body_first GreedyKind bs h = refl
+body_first : (b : ℕ) (k : Kind) (bs : List ℕ) → body_length k ≤ length bs →
+    let cut = take (body_length k) bs in bs ≡ body (record_of k cut) ++ drop (1 + length cut) (b ∷ bs)
+body_first b SizeKind (x ∷ y ∷ more) h = refl
+body_first b MarkPe (x ∷ y ∷ z ∷ more) h = refl
+body_first b MarkRowSwitch (x ∷ y ∷ z ∷ more) h = refl
+body_first b MarkColumnSwitch (x ∷ y ∷ z ∷ more) h = refl
+body_first b ChooseKind (x ∷ y ∷ more) h = refl
+body_first b GreedyKind bs h = refl
+body_first b _ _ h = absurd (omega arith)
 
-fault_ends : (b : ℕ) (r : Result (Record × List ℕ) Refusal) (x : Refusal) → (entry b r).content ≡ Err x → behind r ≡ []
-fault_ends b (Err y) x e = refl
-fault_ends b (Ok p) x e = absurd (cc)
+fault_ends : (r : Result (Record × List ℕ) Refusal) (x : Refusal) → content r ≡ Err x → behind r ≡ []
+fault_ends (Err y) x e = refl
+fault_ends (Ok p) x e = cc
 
-written : (b : ℕ) (k : Result Kind Refusal) (bs : List ℕ) (r : Record) → (entry b (reading k bs)).content ≡ Ok r → bs ≡ body r ++ behind (reading k bs)
-written b (Err x) bs r = λ e. absurd (cc)
-written b (Ok k) bs r =
-    cond_both (ltb (length bs) (body_length k)) _ _ (λ (x : Result (Record × List ℕ) Refusal). (entry b x).content ≡ Ok r → bs ≡ body r ++ behind x)
-    (λ _ e. absurd (cc))
-    (λ long e. let same : record_of k bs ≡ r = cc in body_first k bs (ltb-false _ _ long) ∙ ap (λ y. body y ++ drop (body_length k) bs) same)
-
-entry_kind : (b : ℕ) (r : Result (Record × List ℕ) Refusal) → (entry b r).kind ≡ b
-entry_kind b (Ok p) = refl
-entry_kind b (Err x) = refl
+written : (b : ℕ) (bs : List ℕ) (o : Option Kind) (r : Record) → let read = record_and_rest (b ∷ bs) (with_body body_length 0 bs o) in content read ≡ Ok r → bs ≡ body r ++ behind read
+written b bs None r = λ e. cc
+written b bs (Some k) r =
+    let given = record_and_rest (b ∷ bs) in
+    cond_both (ltb (length bs) (body_length k)) _ _ (λ x. content (given x) ≡ Ok r → bs ≡ body r ++ behind (given x)) (λ _ e. cc)
+    (λ long e.
+    let cut = take (body_length k) bs in
+    let same : record_of k cut ≡ r = cc in body_first b k bs (ltb-false _ _ long) ∙ ap (λ y. body y ++ drop (1 + length cut) (b ∷ bs)) same)
 
 pub reads : (rs : List Record) (more : List ℕ) → entries (bytes rs ++ more) ≡ map whole rs ++ entries more
 reads [] more = refl
@@ -90,12 +81,12 @@ unfolding lines map_left
 in_order before [] js = refl
 in_order before (i ∷ is) js = ap (λ ls. line i.kind (outcome_of before i.content).reply ∷ ls) (in_order (outcome_of before i.content).map is js)
 
-size-kept : (before : Option Host) (t : Result CardSize CardRefusal) (x : Refusal) → (sized before t).reply ≡ Err x → (sized before t).map ≡ before
-size-kept before (Ok z) x e = absurd (let z : ◌≡◌ {A = ℕ} 0 1 = cc in omega arith)
-size-kept before (Err y) x e = refl
+size_kept : (before : Option Host) (t : Result CardSize CardRefusal) (x : Refusal) → (sized before t).reply ≡ Err x → (sized before t).map ≡ before
+size_kept before (Ok z) x e = cc
+size_kept before (Err y) x e = refl
 
 change_kept : (o : Option CardRefusal) (h d : Host) (x : Refusal) → done (by_card (answered o tt)) ≡ Err x → unless o h d ≡ h
-change_kept None h d x e = absurd (let z : ◌≡◌ {A = ℕ} 0 1 = cc in omega arith)
+change_kept None h d x e = cc
 change_kept (Some y) h d x e = refl
 
 call_kept : (h : Host) (c : Call) (x : Refusal) → answered_by h c ≡ Err x → map_after h c ≡ h
@@ -106,7 +97,7 @@ call_kept h Greedy x e = refl
 -- what is refused keeps the map
 refused_keeps : (before : Option Host) (content : Result Record Refusal) (x : Refusal) → (outcome_of before content).reply ≡ Err x → (outcome_of before content).map ≡ before
 refused_keeps before (Err y) x e = refl
-refused_keeps before (Ok (Size rows columns)) x e = size-kept before (tested rows columns) x e
+refused_keeps before (Ok (Size rows columns)) x e = size_kept before (tested rows columns) x e
 refused_keeps None (Ok (Asks c)) x e = refl
 refused_keeps (Some h) (Ok (Asks c)) x e = ap Some (call_kept h c x e)
 
@@ -118,41 +109,40 @@ refused_silent before is js i x e =
     in_order before is (i ∷ js)
     ∙ ap (λ ls. lines before is ++ ls) (ap₂ (λ reply c. line i.kind reply ∷ lines c js) e (refused_keeps now' i.content x e))
 
-joined_append : (xs ys : List Line) → flat_map text (xs ++ ys) ≡ flat_map text xs ++ flat_map text ys
-joined_append [] ys = refl
-joined_append (x ∷ xs) ys = ap (λ t. text x ++ t) (joined_append xs ys) ∙ sym (append_assoc (text x) (flat_map text xs) (flat_map text ys))
-
 pub prefix : (rs : List Record) (more : List ℕ) → listing (bytes rs ++ more) ≡ listing (bytes rs) ++ told_from (map_left None (map whole rs)) more
+unfolding entries_by
 prefix rs more =
     let all = map whole rs in
-    let alone : entries (bytes rs) ≡ all = ap entries (sym (append-nil (bytes rs))) ∙ reads rs [] ∙ ap (λ is. all ++ is) (entries_none [] refl) ∙ append-nil all in
-    ap (λ is. flat_map text (lines None is)) (reads rs more)
+    let alone : entries (bytes rs) ≡ all = ap entries (sym (append-nil (bytes rs))) ∙ reads rs [] ∙ append-nil all in
+    ap (λ es. flat_map text (lines None es)) (reads rs more)
     ∙ ap (flat_map text) (in_order None all (entries more))
-    ∙ joined_append (lines None all) (lines (map_left None all) (entries more))
-    ∙ ap (λ is. flat_map text (lines None is) ++ told_from (map_left None all) more) (sym alone)
+    ∙ flat_map-append text (lines None all) (lines (map_left None all) (entries more))
+    ∙ ap (λ es. flat_map text (lines None es) ++ told_from (map_left None all) more) (sym alone)
 
 pub fault_last : (job : List ℕ) (is js : List Entry) (i : Entry) (x : Refusal) → entries job ≡ is ++ i ∷ js → i.content ≡ Err x → js ≡ []
-fault_last [] [] js i x e f = absurd (cc (entries_none [] refl))
-fault_last [] (k ∷ is) js i x e f = absurd (cc (entries_none [] refl))
+unfolding entries_by
+fault_last [] [] js i x e f = cc
+fault_last [] (k ∷ is) js i x e f = cc
 fault_last (b ∷ bs) [] js i x e f =
-    let r = reading (kind_of b) bs in
+    let r = reading (b ∷ bs) in
     let all = sym (entries_more b bs) ∙ e in
-    let first : entry b r ≡ i = cc in
+    let first : content r ≡ i.content = cc in
     let rest : entries (behind r) ≡ js = cc in
-    sym rest ∙ ap entries (fault_ends b r x (ap (λ (y : Entry). y.content) first ∙ f)) ∙ entries_none [] refl
+    sym rest ∙ ap entries (fault_ends r x (first ∙ f))
 fault_last (b ∷ bs) (k ∷ is) js i x e f =
     let all = sym (entries_more b bs) ∙ e in
-    let rest : entries (behind (reading (kind_of b) bs)) ≡ is ++ i ∷ js = cc in
-    fault_last (behind (reading (kind_of b) bs)) is js i x rest f
+    let rest : entries (behind (reading (b ∷ bs))) ≡ is ++ i ∷ js = cc in
+    fault_last (behind (reading (b ∷ bs))) is js i x rest f
 
 pub nothing_lost : (job : List ℕ) (rs : List Record) → entries job ≡ map whole rs → job ≡ bytes rs
+unfolding entries_by
 nothing_lost [] [] e = refl
-nothing_lost [] (r ∷ rs) e = absurd (cc (entries_none [] refl))
-nothing_lost (b ∷ bs) [] e = absurd (cc (entries_more b bs))
+nothing_lost [] (r ∷ rs) e = cc
+nothing_lost (b ∷ bs) [] e = cc
 nothing_lost (b ∷ bs) (r ∷ rs) e =
-    let read = reading (kind_of b) bs in
+    let read = reading (b ∷ bs) in
     let all = sym (entries_more b bs) ∙ e in
     let first : entry b read ≡ whole r = cc in
     let rest : entries (behind read) ≡ map whole rs = cc in
-    ap₂ ◌∷◌ (sym (entry_kind b read) ∙ ap (λ (y : Entry). y.kind) first) (written b (kind_of b) bs r (ap (λ (y : Entry). y.content) first))
+    ap₂ ◌∷◌ (ap (λ (y : Entry). y.kind) first) (written b bs (kind_of b) r (ap (λ (y : Entry). y.content) first))
     ∙ ap (λ more. kind r ∷ body r ++ more) (nothing_lost (behind read) rs rest)

@@ -1,26 +1,30 @@
 -- A job read entry by entry, and told line by line. Assumes nothing.
-use Rattle.std.proofs.Common.{◌≡◌, ℕ, zero, suc, ◌≤◌, ltb, List, [], ◌∷◌, ◌++◌, length, take, Result, refl, ap, arith, length-drop}
+use Rattle.std.proofs.Common.{◌≡◌, ℕ, zero, suc, ◌+◌, Some, None, Option, ◌≤◌, ltb, List, [], ◌∷◌, ◌++◌, length, take, Result, refl, ap, arith, length-drop}
 use Rattle.std.proofs.lemmas.Bool.{cond_both}
-use Rattle.std.proofs.lemmas.List.{places}
 use Rattle.std.specs.List.{flat_map}
 use Rattle.host.specs.declared.Host.{Host}
-use Rattle.std.specs.Prelude.{Option, Ok, Err}
+use Rattle.records.specs.Records.{with_body}
+use Rattle.records.specs.declared.RecordFault.{RecordFault}
 use Rattle.job.specs.declared.record.Entry.{Entry}
 use Rattle.job.specs.declared.record.Kind.{Kind}
 use Rattle.job.specs.declared.record.Record.{Record}
 use Rattle.job.specs.declared.refusal.Refusal.{Refusal}
-use Rattle.job.specs.Records.{kind_of, body_length, record_of, reading, entry, behind, entries_by, entries}
+use Rattle.job.specs.Records.{kind_of, body_length, record_and_rest, reading, content, behind, entries_by, entries}
 use Rattle.job.specs.Lines.{outcome_of, line, lines, text}
 
--- a record is made of its body alone
-pub record_in_front : (k : Kind) (bs : List ℕ) → body_length k ≤ length bs → record_of k (take (body_length k) bs) ≡ record_of k bs
-record_in_front k bs h = grind (arith, places)
-
 -- what is left behind an entry is no longer than what came after its kind
-behind_short : (k : Result Kind Refusal) (bs : List ℕ) → length (behind (reading k bs)) ≤ length bs
-behind_short (Err x) bs = omega arith
-behind_short (Ok k) bs =
-    cond_both (ltb (length bs) (body_length k)) _ _ (λ (r : Result (Record × List ℕ) Refusal). length (behind r) ≤ length bs) (λ _. omega arith) (λ _. omega (arith, length-drop (body_length k) bs))
+rest_short : (b : ℕ) (bs : List ℕ) (o : Option Kind) → length (behind (record_and_rest (b ∷ bs) (with_body body_length 0 bs o))) ≤ length bs
+rest_short b bs None = omega arith
+rest_short b bs (Some k) =
+    cond_both (ltb (length bs) (body_length k)) _ _ (λ (r : Result (Kind × List ℕ) RecordFault). length (behind (record_and_rest (b ∷ bs) r)) ≤ length bs) (λ _. omega arith)
+    (λ _. omega (arith, length-drop (1 + length (take (body_length k) bs)) (b ∷ bs)))
+
+behind_short : (b : ℕ) (bs : List ℕ) → length (behind (reading (b ∷ bs))) ≤ length bs
+behind_short b bs = rest_short b bs (kind_of b)
+
+-- the entry of a byte of kind, by what was read
+abbrev pub entry : ℕ → Result (Record × List ℕ) Refusal → Entry
+entry b r = record { kind = b; content = content r }
 
 -- any number of turns that is not below the number of bytes will do
 enough : (n m : ℕ) (bs : List ℕ) → length bs ≤ n → length bs ≤ m → entries_by n bs ≡ entries_by m bs
@@ -32,8 +36,8 @@ enough (suc n) (suc m) [] h l = refl
 enough zero m (b ∷ bs) h l = absurd (omega arith)
 enough (suc n) zero (b ∷ bs) h l = absurd (omega arith)
 enough (suc n) (suc m) (b ∷ bs) h l =
-    let r = reading (kind_of b) bs in
-    let short = behind_short (kind_of b) bs in
+    let r = reading (b ∷ bs) in
+    let short = behind_short b bs in
     ap (λ es. entry b r ∷ es) (enough n m (behind r) (omega arith) (omega arith))
 
 pub entries_none : (bs : List ℕ) → length bs ≡ 0 → entries bs ≡ []
@@ -41,17 +45,17 @@ unfolding entries_by
 entries_none [] h = refl
 entries_none (b ∷ bs) h = absurd (omega arith)
 
-pub entries_more : (b : ℕ) (bs : List ℕ) → entries (b ∷ bs) ≡ entry b (reading (kind_of b) bs) ∷ entries (behind (reading (kind_of b) bs))
+pub entries_more : (b : ℕ) (bs : List ℕ) → entries (b ∷ bs) ≡ entry b (reading (b ∷ bs)) ∷ entries (behind (reading (b ∷ bs)))
 unfolding entries_by
 entries_more b bs =
-    let r = reading (kind_of b) bs in
-    ap (λ es. entry b r ∷ es) (enough (length bs) (length (behind r)) (behind r) (behind_short (kind_of b) bs) (omega arith))
+    let r = reading (b ∷ bs) in
+    ap (λ es. entry b r ∷ es) (enough (length bs) (length (behind r)) (behind r) (behind_short b bs) (omega arith))
 
 fewer : (n : ℕ) (bs : List ℕ) → length (entries_by n bs) ≤ n
 unfolding entries_by
 fewer zero bs = omega arith
 fewer (suc n) [] = omega arith
-fewer (suc n) (b ∷ bs) = let h = fewer n (behind (reading (kind_of b) bs)) in omega arith
+fewer (suc n) (b ∷ bs) = let h = fewer n (behind (reading (b ∷ bs))) in omega arith
 
 pub length_entries : (job : List ℕ) → length (entries job) ≤ length job
 length_entries job = fewer (length job) job

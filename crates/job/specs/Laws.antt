@@ -39,7 +39,7 @@ whole r = record { kind = kind r; content = Ok r }
 -- the map that entries leave
 unfoldable pub map_left : Option Host → List Entry → Option Host
 map_left before [] = before
-map_left before (i ∷ is) = map_left (outcome_of before i.content).map is
+map_left before (e ∷ es) = map_left (outcome_of before e.content).map es
 
 pub record Laws : Type 0 where
   -- records written one behind the other are read as those records
@@ -47,13 +47,13 @@ pub record Laws : Type 0 where
   -- a job in which nothing is wrong is its records and nothing else
   pub nothing_lost : (job : List ℕ) (rs : List Record) → entries job ≡ map whole rs → job ≡ bytes rs
   -- what cannot be read ends the reading
-  pub fault_last : (job : List ℕ) (is js : List Entry) (i : Entry) (x : Refusal) → entries job ≡ is ++ i ∷ js → i.content ≡ Err x → js ≡ []
-  -- one line for each item, with its kind
-  pub one_each : (before : Option Host) (is : List Entry) → map (λ (l : Line). l.kind) (lines before is) ≡ map (λ (i : Entry). i.kind) is
+  pub fault_last : (job : List ℕ) (es fs : List Entry) (e : Entry) (x : Refusal) → entries job ≡ es ++ e ∷ fs → e.content ≡ Err x → fs ≡ []
+  -- one line for each entry, with its kind
+  pub one_each : (before : Option Host) (es : List Entry) → map (λ (l : Line). l.kind) (lines before es) ≡ map (λ (e : Entry). e.kind) es
   -- lines depend only on the entries up to them
-  pub in_order : (before : Option Host) (is js : List Entry) → lines before (is ++ js) ≡ lines before is ++ lines (map_left before is) js
-  -- a refused item changes no later line
-  pub refused_silent : (before : Option Host) (is js : List Entry) (i : Entry) (x : Refusal) → (outcome_of (map_left before is) i.content).reply ≡ Err x →
-      lines before (is ++ i ∷ js) ≡ lines before is ++ line i.kind (Err x) ∷ lines (map_left before is) js
+  pub in_order : (before : Option Host) (es fs : List Entry) → lines before (es ++ fs) ≡ lines before es ++ lines (map_left before es) fs
+  -- a refused entry changes no later line
+  pub refused_silent : (before : Option Host) (es fs : List Entry) (e : Entry) (x : Refusal) → (outcome_of (map_left before es) e.content).reply ≡ Err x →
+      lines before (es ++ e ∷ fs) ≡ lines before es ++ line e.kind (Err x) ∷ lines (map_left before es) fs
   -- the listing of a longer job begins with the listing of the shorter
   pub prefix : (rs : List Record) (more : List ℕ) → listing (bytes rs ++ more) ≡ listing (bytes rs) ++ told_from (map_left None (map whole rs)) more

@@ -1,5 +1,7 @@
 -- How the bytes of a job are read. Assumes nothing.
-use Rattle.std.specs.Prelude.{ℕ, zero, suc, cond, List, [], ◌∷◌, length, drop, Ok, Err, Result, ◌==◌, nat_lt, slice_index}
+use Rattle.std.specs.Prelude.{ℕ, zero, suc, ◌+◌, cond, List, [], ◌∷◌, length, drop, Some, None, Ok, Err, Option, Result, ◌==◌, slice_index}
+use Rattle.records.specs.declared.RecordFault.{RecordFault}
+use Rattle.records.specs.Records.{record_from}
 use Rattle.host.specs.declared.part.Part.TheVariants.{Pe, RowSwitch, ColumnSwitch}
 use Rattle.job.specs.declared.record.Entry.{Entry}
 use Rattle.job.specs.declared.record.Kind.{Kind}
@@ -8,17 +10,17 @@ use Rattle.job.specs.declared.record.Call.TheVariants.{Mark, Choose, Greedy}
 use Rattle.job.specs.declared.record.Record.{Record}
 use Rattle.job.specs.declared.record.Record.TheVariants.{Size, Call}
 use Rattle.job.specs.declared.refusal.Refusal.{Refusal}
-use Rattle.job.specs.declared.refusal.Refusal.TheVariants.{UnknownKind, CutShort}
+use Rattle.job.specs.Refusals.{of_record}
 
 -- 10 to 14 and 16, in hexadecimal digits
-abbrev pub kind_of : ℕ → Result Kind Refusal
+abbrev pub kind_of : ℕ → Option Kind
 kind_of b =
-    cond (b == 16) (Ok SizeKind)
-    (cond (b == 17) (Ok MarkPe)
-    (cond (b == 18) (Ok MarkRowSwitch)
-    (cond (b == 19) (Ok MarkColumnSwitch)
-    (cond (b == 20) (Ok ChooseKind)
-    (cond (b == 22) (Ok GreedyKind) (Err UnknownKind))))))
+    cond (b == 16) (Some SizeKind)
+    (cond (b == 17) (Some MarkPe)
+    (cond (b == 18) (Some MarkRowSwitch)
+    (cond (b == 19) (Some MarkColumnSwitch)
+    (cond (b == 20) (Some ChooseKind)
+    (cond (b == 22) (Some GreedyKind) None)))))
 
 abbrev pub body_length : Kind → ℕ
 body_length SizeKind = 2
@@ -37,15 +39,19 @@ record_of MarkColumnSwitch bs = Call (Mark (ColumnSwitch (slice_index bs 0) (sli
 record_of ChooseKind bs = Call (Choose (slice_index bs 0) (slice_index bs 1))
 record_of GreedyKind bs = Call Greedy
 
--- the record that a kind begins, and the bytes after it
-abbrev pub reading : Result Kind Refusal → List ℕ → Result (Record × List ℕ) Refusal
-reading (Err x) bs = Err x
-reading (Ok k) bs = cond (nat_lt (length bs) (body_length k)) (Err CutShort) (Ok (record_of k bs, drop (body_length k) bs))
+-- the record that was found in some bytes, and the bytes behind it
+abbrev pub record_and_rest : List ℕ → Result (Kind × List ℕ) RecordFault → Result (Record × List ℕ) Refusal
+record_and_rest bs (Ok p) = Ok (record_of p.0 p.1, drop (1 + length p.1) bs)
+record_and_rest bs (Err x) = Err (of_record x)
 
--- an entry by its kind and what was read of it
-abbrev pub entry : ℕ → Result (Record × List ℕ) Refusal → Entry
-entry b (Ok p) = record { kind = b; content = Ok p.0 }
-entry b (Err x) = record { kind = b; content = Err x }
+-- the record that bytes begin with, and the bytes after it
+abbrev pub reading : List ℕ → Result (Record × List ℕ) Refusal
+reading bs = record_and_rest bs (record_from kind_of body_length 0 bs)
+
+-- what is read of a record
+abbrev pub content : Result (Record × List ℕ) Refusal → Result Record Refusal
+content (Ok p) = Ok p.0
+content (Err x) = Err x
 
 -- where to read on; a fault ends the reading
 abbrev pub behind : Result (Record × List ℕ) Refusal → List ℕ
@@ -56,7 +62,7 @@ behind (Err x) = []
 unfoldable pub entries_by : ℕ → List ℕ → List Entry
 entries_by zero bs = []
 entries_by (suc n) [] = []
-entries_by (suc n) (b ∷ bs) = let r = reading (kind_of b) bs in entry b r ∷ entries_by n (behind r)
+entries_by (suc n) (b ∷ bs) = let r = reading (b ∷ bs) in record { kind = b; content = content r } ∷ entries_by n (behind r)
 
 abbrev pub entries : List ℕ → List Entry
 entries job = entries_by (length job) job

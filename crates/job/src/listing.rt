@@ -8,7 +8,7 @@ ghost use Rattle.job.specs.Listings.{listed, written, printed, code};
 use crate::card::apply;
 use crate::line::{Line, refused};
 use crate::page::lay;
-use crate::record::Entries;
+use crate::record::{Entries, Entry};
 use crate::refusal::ListingRefusal;
 use book::Book;
 use tariff::links::Links;
@@ -24,12 +24,9 @@ fn write(job: &[u8], page: &mut [u8]) -> usize
 {
     let mut book: Option<Book<Links>> = None;
     let mut used = 0;
-    for entry in Entries(job) {
-        let reply = apply(&mut book, entry.content);
-        let line = Line {
-            kind: entry.kind,
-            reply,
-        };
+    for Entry { kind, content } in Entries(job) {
+        let reply = apply(&mut book, content);
+        let line = Line { kind, reply };
         used = lay(page, used, &line.text());
     }
     used

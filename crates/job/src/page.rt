@@ -2,7 +2,7 @@
 ghost use Rattle.std.specs.Prelude.{◌+◌, ◌^◌, ◌<◌, length};
 ghost use Rattle.job.specs.Pages.{Laid};
 
-/// Lays text over a page from a place on, and answers the place behind it. What lies past the page's end is left out.
+/// Lays text over a page from a place on, and answers the place behind it. What lies past the page's end is counted and left out.
 #[tactic(auto, using(crate::proofs::Overlays::overlaid_part))]
 pub fn lay(page: &mut [u8], at: usize, text: &str) -> usize
     requires { at + length text.now < 2 ^ 64 }

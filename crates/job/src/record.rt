@@ -1,11 +1,13 @@
 //! The records of a job: a byte of kind, and a body whose length the kind fixes.
 ghost use Rattle.std.specs.Prelude.{◌≡◌, ◌≤◌, length};
+ghost use Rattle.std.specs.Option.{ok_or};
 ghost use Rattle.std.specs.Result.{result_map_both};
 ghost use Rattle.std.specs.Iterator.{YieldsFirst, item_count};
 ghost use Rattle.job.specs.Records.{kind_of, body_length, record_of, reading, entries};
 
 use crate::refusal::Refusal;
 use host::part::Part;
+use records::{NoSuchKind, RecordKind, record_at};
 
 #[derive(Clone, Copy)]
 pub enum Kind {
@@ -46,11 +48,11 @@ pub struct Entry {
 pub struct Entries<'a>(pub &'a [u8]);
 
 impl TryFrom<u8> for Kind {
-    type Error = Refusal;
+    type Error = NoSuchKind;
 
-    ghost try_from_gives = { λ byte r. r ≡ kind_of byte };
+    ghost try_from_gives = { λ byte r. r ≡ ok_or (kind_of byte) (record {}) };
 
-    fn try_from(byte: u8) -> Result<Kind, Refusal> {
+    fn try_from(byte: u8) -> Result<Kind, NoSuchKind> {
         match byte {
             0x10 => Ok(Kind::Size),
             0x11 => Ok(Kind::MarkPe),
@@ -58,22 +60,28 @@ impl TryFrom<u8> for Kind {
             0x13 => Ok(Kind::MarkColumnSwitch),
             0x14 => Ok(Kind::Choose),
             0x16 => Ok(Kind::Greedy),
-            _ => Err(Refusal::UnknownKind),
+            _ => Err(NoSuchKind),
         }
     }
 }
 
-impl Kind {
-    pub fn body_length(self) -> usize
-        ensures { result ≡ body_length self }
-    {
+impl RecordKind for Kind {
+    ghost kind_of = { kind_of };
+
+    ghost length_of = { body_length };
+
+    ghost read_from_byte = { λ byte r e. e };
+
+    fn body_length(self) -> usize {
         match self {
             Kind::Greedy => 0,
             Kind::Size | Kind::Choose => 2,
             Kind::MarkPe | Kind::MarkRowSwitch | Kind::MarkColumnSwitch => 3,
         }
     }
+}
 
+impl Kind {
     /// The record of this kind that begins a body.
     fn read(self, body: &[u8]) -> Record
         requires { body_length self ≤ length body.now }
@@ -96,16 +104,12 @@ impl Kind {
     }
 }
 
-/// The record that a byte of kind begins, and the bytes behind it.
-#[tactic(auto, using(crate::proofs::Readings::record_in_front))]
-fn read(kind: u8, bytes: &[u8]) -> Result<(Record, &[u8]), Refusal>
-    ensures { result_map_both (λ p. (p.0, p.1.now)) (λ x. x) result ≡ reading (kind_of kind) bytes.now }
+/// The record that some bytes begin with, and the bytes behind it.
+fn read(bytes: &[u8]) -> Result<(Record, &[u8]), Refusal>
+    ensures { result_map_both (λ p. (p.0, p.1.now)) (λ x. x) result ≡ reading bytes.now }
 {
-    let kind = Kind::try_from(kind)?;
-    let (body, rest) = bytes
-        .split_at_checked(kind.body_length())
-        .ok_or(Refusal::CutShort)?;
-    Ok((kind.read(body), rest))
+    let (kind, body) = record_at::<Kind>(bytes, 0)?;
+    Ok((kind.read(body), &bytes[1 + body.len()..]))
 }
 
 impl<'a> Iterator for Entries<'a> {
@@ -117,8 +121,8 @@ impl<'a> Iterator for Entries<'a> {
 
     #[tactic(auto, using(crate::proofs::Readings::entries_none, crate::proofs::Readings::entries_more))]
     fn next(&mut self) -> Option<Entry> {
-        let (&kind, bytes) = self.0.split_first()?;
-        let reading = read(kind, bytes);
+        let kind = *self.0.first()?;
+        let reading = read(self.0);
         // nothing is read behind a fault
         self.0 = reading.map_or(&[], |(_, rest)| rest);
         let content = reading.map(|(record, _)| record);

@@ -6,12 +6,12 @@ use Rattle.job.proofs.Overlays.{laid_more}
 use Rattle.job.proofs.Readings.{told_of, told_more}
 use Rattle.job.proofs.listing.write.Goals as goal
 
-pub loop-entry-preserved : goal.loop-entry-preserved
-loop-entry-preserved c =
-    let before = option_map map_of c.loop-entry.book in
+pub loop-kind-preserved : goal.loop-kind-preserved
+loop-kind-preserved c =
+    let before = option_map map_of c.loop-kind.book in
     let left = entries c.next.new.self.0.now in
     let step = c.in-Some.ensures.steps in
-    let told = ap (told_of before) step ∙ told_more before c.in-Some.entry left in (
-      omega (arith, c.loop-entry.invariant.0, ap length step, c.lay-used.ensures.behind, c.deref.ensures.1),
-      laid_more c.loop-entry.invariant.1 _ _ (cc) c.lay-used.ensures,
+    let told = ap (told_of before) step ∙ told_more before c.in-Some.field-0 left in (
+      omega (arith, c.loop-kind.invariant.0, ap length step, c.lay-used.ensures.behind, c.deref.ensures.1),
+      laid_more c.loop-kind.invariant.1 _ _ (cc) c.lay-used.ensures,
     )
