@@ -5,21 +5,22 @@ use Rattle.host.specs.declared.Host.{Host}
 use Rattle.host.specs.declared.part.Part.TheVariants.{Pe, RowSwitch, ColumnSwitch}
 use Rattle.job.specs.declared.line.Line.{Line}
 use Rattle.job.specs.declared.record.Record.{Record}
+use Rattle.job.specs.declared.record.Kind.TheVariants.{Size as SizeKind, MarkPe, MarkRowSwitch, MarkColumnSwitch, Choose as ChooseKind, Greedy as GreedyKind}
 use Rattle.job.specs.declared.record.Call.TheVariants.{Mark, Choose, Greedy}
 use Rattle.job.specs.declared.record.Record.TheVariants.{Size, Call}
 use Rattle.job.specs.declared.refusal.Refusal.{Refusal}
 use Rattle.job.specs.declared.record.Entry.{Entry}
-use Rattle.job.specs.Records.{entries}
+use Rattle.job.specs.Records.{code, entries}
 use Rattle.job.specs.Lines.{outcome_of, line, lines, told_from, listing}
 
 -- a record as it is written: its kind and its body
 abbrev pub kind : Record → ℕ
-kind (Size rows columns) = 16
-kind (Call (Mark (Pe i j) s)) = 17
-kind (Call (Mark (RowSwitch i j) s)) = 18
-kind (Call (Mark (ColumnSwitch i j) s)) = 19
-kind (Call (Choose i s)) = 20
-kind (Call Greedy) = 22
+kind (Size rows columns) = code SizeKind
+kind (Call (Mark (Pe i j) s)) = code MarkPe
+kind (Call (Mark (RowSwitch i j) s)) = code MarkRowSwitch
+kind (Call (Mark (ColumnSwitch i j) s)) = code MarkColumnSwitch
+kind (Call (Choose i s)) = code ChooseKind
+kind (Call Greedy) = code GreedyKind
 
 abbrev pub body : Record → List ℕ
 body (Size rows columns) = rows ∷ columns ∷ []

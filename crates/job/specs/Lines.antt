@@ -60,19 +60,12 @@ map_after h (Mark p s) = after h (marking p s)
 map_after h (Choose i s) = after h (choosing i s)
 map_after h Greedy = h
 
--- before a card is opened no call is in turn
-abbrev pub called : Option Host → Call → Outcome
-called None c = record { reply = Err OutOfTurn; map = None }
-called (Some h) c = record { reply = answered_by h c; map = Some (map_after h c) }
-
-abbrev pub outcome : Option Host → Record → Outcome
-outcome map (Size rows columns) = sized map (tested rows columns)
-outcome map (Asks c) = called map c
-
--- what could not be read is refused, and keeps the card
+-- what comes of what was read: a refusal keeps the card, and before a card is opened no call is in turn
 abbrev pub outcome_of : Option Host → Result Record Refusal → Outcome
-outcome_of map (Ok r) = outcome map r
 outcome_of map (Err x) = record { reply = Err x; map = map }
+outcome_of map (Ok (Size rows columns)) = sized map (tested rows columns)
+outcome_of None (Ok (Asks c)) = record { reply = Err OutOfTurn; map = None }
+outcome_of (Some h) (Ok (Asks c)) = record { reply = answered_by h c; map = Some (map_after h c) }
 
 abbrev pub line : ℕ → Reply → Line
 line kind reply = record { kind = kind; reply = reply }

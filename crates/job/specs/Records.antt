@@ -1,5 +1,5 @@
 -- How the bytes of a job are read. Assumes nothing.
-use Rattle.std.specs.Prelude.{ℕ, zero, suc, ◌+◌, cond, List, [], ◌∷◌, length, drop, Some, None, Ok, Err, Option, Result, ◌==◌, slice_index}
+use Rattle.std.specs.Prelude.{ℕ, zero, suc, ◌+◌, List, [], ◌∷◌, length, drop, find, Ok, Err, Option, Result, ◌==◌, slice_index}
 use Rattle.records.specs.declared.RecordFault.{RecordFault}
 use Rattle.records.specs.Records.{record_from}
 use Rattle.host.specs.declared.part.Part.TheVariants.{Pe, RowSwitch, ColumnSwitch}
@@ -12,16 +12,22 @@ use Rattle.job.specs.declared.record.Record.TheVariants.{Size, Call}
 use Rattle.job.specs.declared.refusal.Refusal.{Refusal}
 use Rattle.job.specs.Refusals.{of_record}
 
--- 10 to 14 and 16, in hexadecimal digits
-abbrev pub kind_of : ℕ → Option Kind
-kind_of b =
-    cond (b == 16) (Some SizeKind)
-    (cond (b == 17) (Some MarkPe)
-    (cond (b == 18) (Some MarkRowSwitch)
-    (cond (b == 19) (Some MarkColumnSwitch)
-    (cond (b == 20) (Some ChooseKind)
-    (cond (b == 22) (Some GreedyKind) None)))))
+-- the byte of a kind
+abbrev pub code : Kind → ℕ
+code SizeKind = 0x10
+code MarkPe = 0x11
+code MarkRowSwitch = 0x12
+code MarkColumnSwitch = 0x13
+code ChooseKind = 0x14
+code GreedyKind = 0x16
 
+abbrev pub kinds : List Kind
+kinds = SizeKind ∷ MarkPe ∷ MarkRowSwitch ∷ MarkColumnSwitch ∷ ChooseKind ∷ GreedyKind ∷ []
+
+abbrev pub kind_of : ℕ → Option Kind
+kind_of b = find (λ kind. code kind == b) kinds
+
+-- how many bytes follow a kind
 abbrev pub body_length : Kind → ℕ
 body_length SizeKind = 2
 body_length MarkPe = 3
