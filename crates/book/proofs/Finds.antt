@@ -1,5 +1,5 @@
 -- What greedy finds on a map fits its buffer. Assumes nothing.
-use Rattle.std.proofs.Common.{◌≡◌, ℕ, ◌-◌, ◌*◌, ◌<◌, ◌≤◌, true, List, [], ◌∷◌, map, length, get_or, take, drop, Some, None, sym, ap, ◌∙◌, ⊎_elim, mul-le-mul_right, arith, pow_pos}
+use Rattle.std.proofs.Common.{◌≡◌, ℕ, ◌*◌, ◌<◌, ◌≤◌, true, List, [], ◌∷◌, map, length, get_or, drop, Some, None, ap, ◌∙◌, ⊎_elim, mul-le-mul_right, arith, pow_pos}
 use Rattle.std.proofs.lemmas.List.{length-map}
 use Rattle.std.specs.List.{AllByRecursion}
 use Rattle.std.proofs.ByRecursion.{All-weaker}
@@ -22,8 +22,7 @@ use Rattle.greedy.specs.Laws.{usable_rows}
 use Rattle.greedy.proofs.Starts.{few, starts_inside}
 use Rattle.greedy.proofs.Cards.{family}
 use Rattle.book.specs.declared.refusal.Refusal.TheVariants.{NoRow, ShortBuffer}
-use Rattle.book.specs.declared.rows.Rows.{Rows}
-use Rattle.book.specs.Rows.{card_of, Gathered}
+use Rattle.book.specs.Rows.{card_of}
 use Rattle.book.specs.Charges.{charges}
 use Rattle.book.specs.Calls.{found, rowless, greedy_refusal}
 use Rattle.book.proofs.Totals.{charges_columns}
@@ -52,40 +51,37 @@ columns_long h some =
 pub rows_named : (h : Host) (m : ℕ) → m ≡ mask (stands h) → members (bit m) ≡ members (stands h)
 rows_named h m e = ap (λ x. members (bit x)) e ∙ passing-same (bit (mask (stands h))) (stands h) 64 (bit-mask_below (stands h) 64)
 
--- with the rows that the code gathered, and a buffer with room for a full card
-module _ (h : Host) (r : Rows) (all : Gathered h r) (room : ℕ) (fits : h.size.columns * r.count ≤ room) where
-  part_rows : take (r.count - 0) r.usable ≡ usable_rows (card_of h)
-  part_rows = let e : r.count - 0 ≡ r.count = omega arith in ap (λ n. take n r.usable) e ∙ all.each
+-- with the rows that the code gathered, how many they are, and a buffer with room for a full card
+module _ (h : Host) (rows : List ℕ) (all : rows ≡ usable_rows (card_of h)) (count : ℕ) (counted : count ≡ length rows) (room : ℕ) (fits : h.size.columns * count ≤ room) where
+  count_is : count ≡ standing (card_of h)
+  count_is = counted ∙ ap length all ∙ rows_long h
 
-  count_is : length (usable_rows (card_of h)) ≡ r.count
-  count_is = rows_long h ∙ sym all.number
-
-  pub starts_fit : usable_starts (take (r.count - 0) r.usable) * length (take (r.count - 0) r.usable) ≤ room
+  pub starts_fit : usable_starts rows * length rows ≤ room
   starts_fit =
-      let most : usable_starts (usable_rows (card_of h)) * r.count ≤ h.size.columns * r.count = mul-le-mul_right r.count (starts_few h) in
-      omega (arith, ap (λ rows. usable_starts rows * length rows) part_rows, ap (λ n. usable_starts (usable_rows (card_of h)) * n) count_is)
+      let few : usable_starts rows ≤ h.size.columns = rw all (starts_few h) in
+      rw (← counted) (omega (arith, fits, mul-le-mul_right count few))
 
-  pub columns_are : (n : ℕ) → n ≡ length (greedy (take (r.count - 0) r.usable)).columns → n ≡ length (found h)
-  columns_are n e = e ∙ ap (λ rows. length (greedy rows).columns) part_rows
+  pub columns_are : (n : ℕ) → n ≡ length (greedy rows).columns → n ≡ length (found h)
+  columns_are n e = e ∙ ap (λ rows. length (greedy rows).columns) all
 
-  pub columns_fit : (n : ℕ) → n ≡ length (greedy (take (r.count - 0) r.usable)).columns → (n * r.count ≤ room) × (n ≤ 64)
+  pub columns_fit : (n : ℕ) → n ≡ length (greedy rows).columns → (n * count ≤ room) × (n ≤ 64)
   columns_fit n e =
       let few : n ≤ h.size.columns = omega (arith, columns_are n e, few (usable_rows (card_of h)), starts_few h) in
-      (omega (arith, mul-le-mul_right r.count few), omega (arith, h.size.sized.3))
+      (omega (arith, fits, mul-le-mul_right count few), omega (arith, h.size.sized.3))
 
-  pub bytes_are : (out after : List ℕ) → after ≡ at_front (one_after_another (greedy (take (r.count - 0) r.usable)).columns) out → after ≡ at_front (one_after_another (found h)) out
-  bytes_are out after e = e ∙ ap (λ rows. at_front (one_after_another (greedy rows).columns) out) part_rows
+  pub bytes_are : (out after : List ℕ) → after ≡ at_front (one_after_another (greedy rows).columns) out → after ≡ at_front (one_after_another (found h)) out
+  bytes_are out after e = e ∙ ap (λ rows. at_front (one_after_another (greedy rows).columns) out) all
 
-  pub total_is : 0 < r.count → (m : Meaning) (standing-rows n : ℕ) (out after : List ℕ) → standing-rows ≡ mask (stands h) → n ≡ length (found h) → after ≡ at_front (one_after_another (found h)) out →
-      charges m (members (bit standing-rows)) after r.count n ≡ total_charge (card_of h) m (found h)
+  pub total_is : 0 < count → (m : Meaning) (standing-rows n : ℕ) (out after : List ℕ) → standing-rows ≡ mask (stands h) → n ≡ length (found h) → after ≡ at_front (one_after_another (found h)) out →
+      charges m (members (bit standing-rows)) after count n ≡ total_charge (card_of h) m (found h)
   total_is standing-some m standing-rows n out after e number bytes =
       let c = card_of h in
-      let some : 0 < standing c = omega (arith, all.number) in
-      (λ t. charges m (rows_named h standing-rows e t) (bytes t) (all.number t) (number t))
+      let some : 0 < standing c = omega (arith, count_is) in
+      (λ t. charges m (rows_named h standing-rows e t) (bytes t) (count_is t) (number t))
       ∙ charges_columns m c.rows (standing c) (found h) (columns_long h some) (drop (length (one_after_another (found h))) out)
 
   -- nothing is refused
-  pub not_refused : (0 < r.count) → greedy_refusal h room ≡ None
+  pub not_refused : 0 < count → greedy_refusal h room ≡ None
   not_refused some =
-      cond-false (rowless h) (Some NoRow) _ (ne_eqb (standing (card_of h)) 0 (λ e. omega (arith, all.number)))
-      ∙ cond-false _ (Some ShortBuffer) None (le-ltb room (h.size.columns * standing (card_of h)) (omega (arith, ap (λ n. h.size.columns * n) all.number)))
+      cond-false (rowless h) (Some NoRow) _ (ne_eqb (standing (card_of h)) 0 (λ e. omega (arith, count_is)))
+      ∙ cond-false _ (Some ShortBuffer) None (le-ltb room (h.size.columns * standing (card_of h)) (omega (arith, fits, ap (λ n. h.size.columns * n) count_is)))

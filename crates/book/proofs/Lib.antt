@@ -1,4 +1,3 @@
-mod Gathers
 mod Totals
 mod Finds
 mod Trials

@@ -5,7 +5,7 @@ ghost use Rattle.book.specs.Calls.{greedy_answer, greedy_buffer};
 use crate::Book;
 use crate::charges::total_charge;
 use crate::refusal::Refusal;
-use crate::rows::Rows;
+use crate::rows::usable_rows;
 use host::Host;
 use tariff::Tariff;
 
@@ -14,15 +14,15 @@ pub fn greedy_on<T: Tariff>(host: &Host, tariff: &T, out: &mut [u8]) -> Result<(
     ensures answer { result ≡ greedy_answer host.now (T.meaning tariff.now) (length out.old) }
     ensures buffer { out.new ≡ greedy_buffer host.now out.old }
 {
-    let mut rows = Rows::of(host);
-    let count = rows.count;
+    let mut rows = usable_rows(host);
+    let count = rows.len();
     if count == 0 {
         return Err(Refusal::NoRow);
     }
-    if out.len() < host.size().columns() as usize * count {
+    if out.len() < usize::from(host.size().columns()) * count {
         return Err(Refusal::ShortBuffer);
     }
-    let columns = greedy::search(&mut rows.usable[0..count], out);
+    let columns = greedy::search(rows.as_mut_slice(), out);
     let total = total_charge(tariff, host.standing(), out, count, columns);
     Ok((columns, total))
 }

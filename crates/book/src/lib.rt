@@ -3,6 +3,7 @@
 
 ghost use Rattle.std.specs.Prelude.{◌≡◌};
 ghost use Rattle.host.specs.Changes.{opened, marking, picturing, choosing, answer, after};
+ghost use Rattle.book.specs.Books.{with_map};
 ghost use Rattle.book.specs.Calls.{by_card};
 ghost use Rattle.book.specs.Laws.{Laws};
 
@@ -42,8 +43,7 @@ impl<T: Tariff> Book<T> {
     /// Sets a part of the card to state 0, healthy, or 1, faulty.
     pub fn mark(&mut self, part: Part, state: u8) -> Result<(), Refusal>
         ensures answer { result ≡ by_card (answer self.old.host (marking part state)) }
-        ensures map { self.new.host ≡ after self.old.host (marking part state) }
-        ensures tariff { self.new.tariff ≡ self.old.tariff }
+        ensures book { self.new ≡ with_map self.old (after self.old.host (marking part state)) }
     {
         self.host.mark(part, state)?;
         Ok(())
@@ -52,8 +52,7 @@ impl<T: Tariff> Book<T> {
     /// Sets the PEs of a row from one character each: '.' is healthy, 'X' is faulty.
     pub fn picture(&mut self, row: u8, text: &[u8]) -> Result<(), Refusal>
         ensures answer { result ≡ by_card (answer self.old.host (picturing row text.now)) }
-        ensures map { self.new.host ≡ after self.old.host (picturing row text.now) }
-        ensures tariff { self.new.tariff ≡ self.old.tariff }
+        ensures book { self.new ≡ with_map self.old (after self.old.host (picturing row text.now)) }
     {
         self.host.picture(row, text)?;
         Ok(())
@@ -62,8 +61,7 @@ impl<T: Tariff> Book<T> {
     /// Sets a row to 1, chosen, or 0, left out.
     pub fn choose(&mut self, row: u8, state: u8) -> Result<(), Refusal>
         ensures answer { result ≡ by_card (answer self.old.host (choosing row state)) }
-        ensures map { self.new.host ≡ after self.old.host (choosing row state) }
-        ensures tariff { self.new.tariff ≡ self.old.tariff }
+        ensures book { self.new ≡ with_map self.old (after self.old.host (choosing row state)) }
     {
         self.host.choose(row, state)?;
         Ok(())

@@ -1,30 +1,19 @@
 //! The standing rows of a card, counted from 0 at the top.
 ghost use Rattle.std.specs.Prelude.{◌≡◌};
-ghost use Rattle.book.specs.Rows.{Gathered};
+ghost use Rattle.greedy.specs.Laws.{usable_rows};
+ghost use Rattle.book.specs.Rows.{card_of};
 
+use arrayvec::ArrayVec;
 use host::Host;
-use masks::has;
+use masks::iter::Members;
 
-/// The usable PEs of each standing row, going down; what lies past them has no meaning.
-#[derive(Clone, Copy)]
-pub struct Rows {
-    pub usable: [u64; 64],
-    pub count: usize,
-}
-
-impl Rows {
-    pub fn of(host: &Host) -> Rows
-        ensures { Gathered host.now result }
-    {
-        let standing = host.standing();
-        let mut usable = [0; 64];
-        let mut count = 0;
-        for row in 0..64u8 {
-            if has(standing, row) {
-                usable[count] = host.usable_in(row);
-                count += 1;
-            }
-        }
-        Rows { usable, count }
+/// The usable PEs of each standing row, going down.
+pub fn usable_rows(host: &Host) -> ArrayVec<u64, 64>
+    ensures { result.items ≡ usable_rows (card_of host.now) }
+{
+    let mut rows = ArrayVec::new();
+    for row in Members::of(host.standing()) {
+        rows.push(host.usable_in(row));
     }
+    rows
 }

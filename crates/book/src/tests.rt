@@ -6,6 +6,7 @@ use host::size::Size;
 use std::test::Fail;
 use tariff::heat::Heat;
 use tariff::links::Links;
+use tariff::pe::Pe;
 
 const OUTSIDE: Refusal = Refusal::Card(host::refusal::Refusal::Outside);
 
@@ -79,10 +80,10 @@ fn a_full_card_has_straight_columns(rt: HostRuntime) -> Result<(), Fail> {
 #[test]
 fn heat_is_charged(rt: HostRuntime) -> Result<(), Fail> {
     let mut heat = Heat::new(Links);
-    heat.set(0, 1, 2)?;
-    heat.set(1, 0, 5)?;
-    heat.set(1, 1, 9)?;
-    heat.set(1, 2, 3)?;
+    heat.set(Pe::at(0, 1), 2)?;
+    heat.set(Pe::at(1, 0), 5)?;
+    heat.set(Pe::at(1, 1), 9)?;
+    heat.set(Pe::at(1, 2), 3)?;
     let mut book = Book::open(Size::test(2, 3)?, heat);
     book.picture(0, b"X.X")?;
     let mut out = [b'#'; 6];

@@ -33,10 +33,7 @@ module _ (j : ℕ) where
       (or_else (record { found = found; untried = v; tried = t }) next).found ≡ None →
       (found ≡ None) × ((or_else (record { found = found; untried = v; tried = t }) next).untried ≡ (next v).untried)
   or_else-none next None v t e = (refl, refl)
-  or_else-none next (Some a) v t e = absurd (some_none a e)
-    where
-      some_none : (a : List ℕ) → Some a ≡ None → ⊥
-      some_none a e = let z : ◌≡◌ {A = ℕ} 0 1 = cc in omega arith
+  or_else-none next (Some a) v t e = cc
 
   -- the three tries
   all_tried : (n : ℕ) (rows : List ℕ) → (try_lower (reach n) j rows).found ≡ None → From (j - 1 + 1 + 1 + 1) (try_lower (reach n) j rows).untried
@@ -57,7 +54,7 @@ module _ (j : ℕ) where
 
   from-none : (i : ℕ) (found : Option (List ℕ)) → from i found ≡ None → found ≡ None
   from-none i None e = refl
-  from-none i (Some a) e = let z : ◌≡◌ {A = ℕ} 0 1 = cc in absurd (omega arith)
+  from-none i (Some a) e = cc
 
 pub given_up : (below j row next : ℕ) (rows : List ℕ) → (reach (suc below) j (row ∷ next ∷ rows)).found ≡ None →
     neighbour (get_or (reach (suc below) j (row ∷ next ∷ rows)).untried 1 0) j ≡ None

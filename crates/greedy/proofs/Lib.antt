@@ -1,6 +1,4 @@
-mod Near
 mod Steps
-mod Counting
 mod Turns
 pub mod Going
 mod Rows

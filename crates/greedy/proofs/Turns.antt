@@ -1,21 +1,41 @@
 -- One start more: what it leaves for those that follow. Assumes nothing.
-use Rattle.std.proofs.Common.{◌≡◌, ℕ, zero, suc, ◌-◌, ◌<◌, Bool, true, false, List, [], ◌∷◌, length, get_or, Some, None, Option, sym, refl, ap, ◌∙◌, ap₂, arith}
+use Rattle.std.proofs.Common.{◌≡◌, ℕ, zero, suc, ◌-◌, Bool, true, false, List, [], ◌∷◌, length, get_or, Some, None, Option, sym, refl, ap, ◌∙◌, ap₂, arith, pow_pos}
 use Rattle.std.proofs.lemmas.Bool.{true≢false, false≢true}
 use Rattle.masks.specs.Masks.{bit, how_many, least}
-use Rattle.masks.specs.Laws.{Least}
-use Rattle.masks.proofs.Counts.{least-found}
+use Rattle.masks.specs.Members.{members}
+use Rattle.masks.proofs.Members.{passing-empty, members-none, members_first}
+use Rattle.masks.proofs.Bits.{bit_low}
 use Rattle.greedy.specs.Search.{Outcome, PE, without, reach, ended, before, and_then, starts, usable_starts, greedy}
 use Rattle.greedy.specs.Answers.{seen, told}
-use Rattle.greedy.proofs.Counting.{how_many-without}
+use Rattle.greedy.proofs.Columns.{reach_is}
+use Rattle.greedy.proofs.Rows.{how_many-without}
 
--- a start is an untried PE
-least_is : (row j : ℕ) → least (bit row) ≡ Some j → (j < 64) × (bit row j ≡ true)
-least_is row j e = let l : Least (bit row) 64 (Some j) = rw e at (least-found (bit row) 64) in (l.0, l.1)
+-- the starts of a row, where j is the next one
+module _ (row j : ℕ) (later : List ℕ) (next : members (bit row) ≡ j ∷ later) where
+  next_is : (o : Option ℕ) → least (bit row) ≡ o → (o ≡ Some j) × (members (bit (without row j)) ≡ later)
+  next_is None e = absurd (omega (arith, ap length (sym (members-none row e) ∙ next)))
+  next_is (Some i) e =
+      let both : i ∷ members (bit (without row i)) ≡ j ∷ later = sym (members_first row i (without row i) e refl) ∙ next in
+      let same : i ≡ j = cc in
+      (ap Some same, ap (λ k. members (bit (without row k))) (sym same) ∙ cc)
+
+  pub start_is : (least (bit row) ≡ Some j) × (members (bit (without row j)) ≡ later)
+  start_is = next_is (least (bit row)) refl
+
+-- no starts are left
+pub no_start : (row : ℕ) → members (bit row) ≡ [] → least (bit row) ≡ None
+no_start row none = none_of (least (bit row)) refl
+  where
+    none_of : (o : Option ℕ) → least (bit row) ≡ o → o ≡ None
+    none_of None e = refl
+    none_of (Some i) e = absurd (omega (arith, ap length (sym (members_first row i (without row i) e refl) ∙ none)))
+
+-- with no rows there is no start
+pub rows_are : (j : ℕ) (later : List ℕ) → members (bit 0) ≡ j ∷ later → ⊥
+rows_are j later next = omega (arith, ap length (sym (passing-empty (bit 0) 64 (λ i l. bit_low 0 i (pow_pos i))) ∙ next))
 
 starts-after : (n j row : ℕ) (rows : List ℕ) → usable_starts (reach n j (row ∷ rows)).untried ≡ how_many (bit (without row j))
-unfolding reach
-starts-after zero j row rows = refl
-starts-after (suc n) j row rows = refl
+starts-after n j row rows = ap (λ o. usable_starts o.untried) (reach_is n j row rows)
 
 -- one start, and none
 starts_some : (n j row : ℕ) (rows : List ℕ) → least (bit row) ≡ Some j → starts (suc n) (row ∷ rows) ≡ and_then (reach (length rows) j (row ∷ rows)) (starts n)
@@ -30,20 +50,19 @@ starts-none (suc n) row rows e = ap (λ o. elim o [ Some k ↦ and_then (reach (
 greedy_start : (j row : ℕ) (rows : List ℕ) → least (bit row) ≡ Some j →
     greedy (row ∷ rows) ≡ and_then (reach (length rows) j (row ∷ rows)) greedy
 greedy_start j row rows e =
-    let is = least_is row j e in
     let o = reach (length rows) j (row ∷ rows) in
     let left : ℕ = how_many (bit (without row j)) in
-    ap (λ n. starts n (row ∷ rows)) (how_many-without row j is.0 is.1) ∙ starts_some left j row rows e
+    ap (λ n. starts n (row ∷ rows)) (how_many-without row j e) ∙ starts_some left j row rows e
     ∙ ap (λ n. and_then o (starts n)) (sym (starts-after (length rows) j row rows))
 
-pub greedy_end : (row : ℕ) (rows : List ℕ) → least (bit row) ≡ None → greedy (row ∷ rows) ≡ ended (row ∷ rows)
-greedy_end row rows e = starts-none (how_many (bit row)) row rows e
+pub greedy_end : (u : List ℕ) → least (bit (get_or u 0 0)) ≡ None → greedy u ≡ ended u
+unfolding starts
+greedy_end [] e = refl
+greedy_end (row ∷ rows) e = starts-none (how_many (bit row)) row rows e
 
 pub fewer_starts : (j row : ℕ) (rows : List ℕ) → least (bit row) ≡ Some j →
     usable_starts (row ∷ rows) ≡ suc (usable_starts (reach (length rows) j (row ∷ rows)).untried)
-fewer_starts j row rows e =
-    let is = least_is row j e in
-    how_many-without row j is.0 is.1 ∙ ap suc (sym (starts-after (length rows) j row rows))
+fewer_starts j row rows e = how_many-without row j e ∙ ap suc (sym (starts-after (length rows) j row rows))
 
 -- what a call of `reach` tells of its outcome
 module _ (p q u untried : List ℕ) (tried : List PE) where
@@ -67,6 +86,7 @@ module _ (j row : ℕ) (rows p q u : List ℕ) (start : least (bit row) ≡ Some
     pub columns_are : (greedy (row ∷ rows)).columns ≡ columns
     pub untried_is : (greedy (row ∷ rows)).untried ≡ (greedy u).untried
     pub fewer_are : usable_starts (row ∷ rows) ≡ suc (usable_starts u)
+    pub first_is : get_or u 0 0 ≡ without row j
 
   turned : (f : Option (List ℕ)) → outcome_at.found ≡ f → outcome_at.untried ≡ u → Turned (before f (greedy u).columns)
   turned f is left = record {
@@ -75,6 +95,7 @@ module _ (j row : ℕ) (rows p q u : List ℕ) (start : least (bit row) ≡ Some
         ∙ ap₂ (λ g v. before g (greedy v).columns) is left;
     untried_is = ap (λ e. e.untried) (greedy_start j row rows start) ∙ ap (λ v. (greedy v).untried) left;
     fewer_are = fewer_starts j row rows start ∙ ap (λ v. suc (usable_starts v)) left;
+    first_is = ap (λ v. get_or v 0 0) (sym left) ∙ ap (λ o. get_or o.untried 0 0) (reach_is (length rows) j row rows);
   }
 
   at_length : (r : Bool) → seen r p u ≡ told q (reach (length (row ∷ rows) - 1) j (row ∷ rows)) → seen r p u ≡ told q outcome_at
@@ -89,13 +110,3 @@ module _ (j row : ℕ) (rows p q u : List ℕ) (start : least (bit row) ≡ Some
   turned_missed e =
       let w = when_missed p q u outcome_at.untried outcome_at.tried outcome_at.found (at_length false e) in
       (turned None w.0 w.1, w.2)
-
--- each start is one less
-module _ (j : ℕ) (p q u' : List ℕ) where
-  pub after-found_less : (u : List ℕ) → 0 < length u → least (bit (get_or u 0 0)) ≡ Some j → seen true p u' ≡ told q (reach (length u - 1) j u) → usable_starts u' < usable_starts u
-  after-found_less [] some start e = absurd (omega arith)
-  after-found_less (row ∷ rows) some start e = omega (arith, (turned_found j row rows p q u' start e).fewer_are)
-
-  pub after_missed_less : (u : List ℕ) → 0 < length u → least (bit (get_or u 0 0)) ≡ Some j → seen false p u' ≡ told q (reach (length u - 1) j u) → usable_starts u' < usable_starts u
-  after_missed_less [] some start e = absurd (omega arith)
-  after_missed_less (row ∷ rows) some start e = omega (arith, (turned_missed j row rows p q u' start e).0.fewer_are)

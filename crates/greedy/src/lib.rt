@@ -1,10 +1,12 @@
 //! Greedy column rerouting: the search for columns, from left to right.
 #![tactic(auto)]
 
-ghost use Rattle.std.specs.Prelude.{◌≡◌, ◌-◌, ◌*◌, ◌<◌, ◌≤◌, length};
+ghost use Rattle.std.specs.Prelude.{◌≡◌, ◌-◌, ◌*◌, ◌≤◌, length};
 ghost use Rattle.greedy.specs.Search.{neighbour, reach, try_leftmost, try_lower, usable_starts, greedy};
 ghost use Rattle.greedy.specs.Answers.{seen, told, one_after_another, at_front};
 ghost use Rattle.greedy.specs.Laws.{Laws};
+
+use masks::iter::Members;
 
 #[cfg(test)]
 mod tests;
@@ -18,11 +20,9 @@ pub fn search(untried: &mut [u64], out: &mut [u8]) -> u32
     ensures untried { untried.new ≡ (greedy untried.old).untried }
 {
     let rows = untried.len();
-    if rows == 0 {
-        return 0;
-    }
+    let starts = untried.first().copied().unwrap_or(0);
     let mut columns = 0;
-    while let Some(start) = masks::lowest(untried[0]) {
+    for start in Members::of(starts) {
         let at = columns as usize * rows;
         if reach(start, untried, &mut out[at..at + rows]) {
             columns += 1;
@@ -39,23 +39,24 @@ pub fn laws()
 /// Whether a column can be completed from the PE in this column of the first row; it is written to `path`.
 #[cycle(reaching)]
 fn reach(column: u8, untried: &mut [u64], path: &mut [u8]) -> bool
-    requires rows { 0 < length untried.old }
-    requires path { length path.old ≡ length untried.old }
+    requires { length path.old ≡ length untried.old }
     ensures { seen result path.new untried.new ≡ told path.old (reach (length untried.old - 1) column untried.old) }
 {
-    untried[0] = masks::with(untried[0], column, false);
-    if untried.len() > 1 && !try_lower(column, &mut untried[1..], &mut path[1..]) {
+    let Some((row, lower)) = untried.split_first_mut() else {
         return false;
+    };
+    *row = masks::with(*row, column, false);
+    if lower.is_empty() || try_lower(column, lower, &mut path[1..]) {
+        path[0] = column;
+        return true;
     }
-    path[0] = column;
-    true
+    false
 }
 
 /// Tries the lower neighbours of a PE, left first; there are three at most.
 #[cycle(reaching)]
 fn try_lower(column: u8, untried: &mut [u64], path: &mut [u8]) -> bool
-    requires rows { 0 < length untried.old }
-    requires path { length path.old ≡ length untried.old }
+    requires { length path.old ≡ length untried.old }
     ensures { seen result path.new untried.new ≡ told path.old (try_lower (reach (length untried.old - 1)) column untried.old) }
 {
     try_leftmost(column, untried, path)
@@ -66,11 +67,10 @@ fn try_lower(column: u8, untried: &mut [u64], path: &mut [u8]) -> bool
 /// Reaches the leftmost untried lower neighbour, if there is one.
 #[cycle(reaching)]
 fn try_leftmost(column: u8, untried: &mut [u64], path: &mut [u8]) -> bool
-    requires rows { 0 < length untried.old }
-    requires path { length path.old ≡ length untried.old }
+    requires { length path.old ≡ length untried.old }
     ensures { seen result path.new untried.new ≡ told path.old (try_leftmost (reach (length untried.old - 1)) column untried.old) }
 {
-    match neighbour(untried[0], column) {
+    match untried.first().and_then(|row| neighbour(*row, column)) {
         Some(next) => reach(next, untried, path),
         None => false,
     }

@@ -1,6 +1,5 @@
 pub mod Sizes
 pub mod Rows
-pub mod Drawings
 pub mod Tables
 pub mod Places
 pub mod Repeats

@@ -1,10 +1,12 @@
 -- When a PE is usable and when a row stands. Assumes nothing.
-use Rattle.std.proofs.Common.{◌≡◌, ℕ, zero, suc, ◌+◌, ◌≤◌, true, false, not, ltb, Decides, refl, ap, ◌∙◌, ⊎_elim, arith}
-use Rattle.std.proofs.lemmas.Bool.{cases_lt, ltb-true, lt-ltb, le-ltb, and_parts, and_from, and_left, and_right, not-true, not_from_false}
+use Rattle.std.proofs.Common.{◌≡◌, ℕ, zero, suc, ◌+◌, ◌<◌, true, false, Decides, refl, ap, ◌∙◌, ⊎_elim, arith}
+use Rattle.std.proofs.lemmas.Bool.{cases_lt}
+use Rattle.std.proofs.lemmas.Bool.Decides.{nat_tests}
+use Rattle.masks.specs.Masks.{none}
 use Rattle.masks.proofs.Masks.{mask_empty}
 use Rattle.host.specs.declared.Host.{Host}
-use Rattle.host.specs.declared.part.Part.TheVariants.{Pe, RowSwitch, ColumnSwitch}
-use Rattle.host.specs.Maps.{inside, faulty, faulty_above, chosen, usable, stands}
+use Rattle.host.specs.declared.part.Part.TheVariants.{RowSwitch, ColumnSwitch}
+use Rattle.host.specs.Maps.{faulty, faulty_above, usable, stands}
 use Rattle.host.specs.Laws.{Healthy, Usable, Stands}
 
 module _ (h : Host) where
@@ -20,34 +22,28 @@ module _ (h : Host) where
   usable_when i j = (reads, made)
     where
       reads : usable h i j ≡ true → Usable h i j
-      reads e =
-          let a = and_parts (inside h.size (Pe i j)) _ e in
-          let here = and_parts (ltb i h.size.rows) (ltb j h.size.columns) a.0 in
-          let b = and_parts (not (faulty h (Pe i j))) _ a.1 in
-          let s = and_parts (not (faulty_above h i j)) (not (faulty h (ColumnSwitch i j))) b.1 in
-          record {
-            row = ltb-true i h.size.rows here.0;
-            column = ltb-true j h.size.columns here.1;
-            healthy = not-true (faulty h (Pe i j)) b.0;
-            above = above_healthy i j (not-true (faulty_above h i j) s.0);
-            below = not-true (faulty h (ColumnSwitch i j)) s.1;
-          }
+      reads e = record {
+        row = grind (arith, nat_tests);
+        column = grind (arith, nat_tests);
+        healthy = grind (arith, nat_tests);
+        above = above_healthy i j (grind (arith, nat_tests));
+        below = grind (arith, nat_tests);
+      }
 
       made : Usable h i j → usable h i j ≡ true
-      made u =
-          and_from _ _ (and_from _ _ (lt-ltb i h.size.rows u.row) (lt-ltb j h.size.columns u.column))
-          (and_from _ _ (not_from_false _ u.healthy)
-          (and_from _ _ (not_from_false _ (healthy_above i j u.above)) (not_from_false _ u.below)))
-
-  -- past the last column there is no row switch
-  far_healthy : (i j : ℕ) → 64 ≤ j → Healthy h (RowSwitch i j)
-  far_healthy i j l = and_left _ _ (and_right (ltb i h.size.rows) _ (le-ltb (j + 1) h.size.columns (omega (arith, h.size.sized.3))))
+      made u = let above = healthy_above i j u.above in grind (arith, nat_tests)
 
   pub stands_when : (i : ℕ) → Decides (stands h i) (Stands h i)
-  stands_when i =
-      let switches = mask_empty (λ j. faulty h (RowSwitch i j)) in (
-        λ e.
-            let a = and_parts (chosen h i) _ e in
-            record { picked = a.0; joined = λ j. ⊎_elim (λ l. switches.0 a.1 j l) (λ l. far_healthy i j l) (cases_lt j 64) },
-        λ s. and_from _ _ s.picked (switches.1 (λ j _. s.joined j)),
-      )
+  stands_when i = (reads, made)
+    where
+      switches : Decides (none (λ j. faulty h (RowSwitch i j))) ((j : ℕ) → j < 64 → faulty h (RowSwitch i j) ≡ false)
+      switches = mask_empty (λ j. faulty h (RowSwitch i j))
+
+      reads : stands h i ≡ true → Stands h i
+      reads e = record {
+        picked = grind (arith, nat_tests);
+        joined = λ j. ⊎_elim (λ l. switches.0 (grind (arith, nat_tests)) j l) (λ l. grind (arith, nat_tests, h.size.sized)) (cases_lt j 64);
+      }
+
+      made : Stands h i → stands h i ≡ true
+      made s = let whole = switches.1 (λ j _. s.joined j) in grind (arith, nat_tests)

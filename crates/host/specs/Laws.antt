@@ -43,14 +43,9 @@ first_state (choice_of i) = true
 
 abbrev pub same : Part → Part → Bool
 same (Pe i j) (Pe k l) = k == i && l == j
-same (Pe i j) (RowSwitch k l) = false
-same (Pe i j) (ColumnSwitch k l) = false
-same (RowSwitch i j) (Pe k l) = false
 same (RowSwitch i j) (RowSwitch k l) = k == i && l == j
-same (RowSwitch i j) (ColumnSwitch k l) = false
-same (ColumnSwitch i j) (Pe k l) = false
-same (ColumnSwitch i j) (RowSwitch k l) = false
 same (ColumnSwitch i j) (ColumnSwitch k l) = k == i && l == j
+same _ _ = false
 
 abbrev pub only : Bool → Bool → Option Bool
 only named b = cond named (Some b) None
@@ -58,31 +53,20 @@ only named b = cond named (Some b) None
 -- the state that a call names for a place
 abbrev pub names : Change → Place → Option Bool
 names (marking p s) (part q) = only (same p q) (s == 1)
-names (marking p s) (choice_of k) = None
 names (picturing i text) (part (Pe k l)) = only (k == i) (crossed text l)
-names (picturing i text) (part (RowSwitch k l)) = None
-names (picturing i text) (part (ColumnSwitch k l)) = None
-names (picturing i text) (choice_of k) = None
-names (choosing i s) (part q) = None
 names (choosing i s) (choice_of k) = only (k == i) (s == 1)
+names _ _ = None
 
--- each table has its 64 rows, as every table of the code has
-pub record Whole (h : Host) : Type 0 where
-  pub pes : length h.pes ≡ 64
-  pub across : length h.across ≡ 64
-  pub down : length h.down ≡ 64
+-- a map has 64 rows, as every map of the code has
+abbrev pub Whole : Host → Type 0
+Whole h = length h.rows ≡ 64
 
 -- two calls that name the same places
 abbrev pub Alike : Change → Change → Type 0
 Alike (marking p s) (marking q t) = p ≡ q
-Alike (marking p s) (picturing k u) = ⊥
-Alike (marking p s) (choosing k t) = ⊥
-Alike (picturing i u) (marking q t) = ⊥
 Alike (picturing i u) (picturing k v) = i ≡ k
-Alike (picturing i u) (choosing k t) = ⊥
-Alike (choosing i s) (marking q t) = ⊥
-Alike (choosing i s) (picturing k u) = ⊥
 Alike (choosing i s) (choosing k t) = i ≡ k
+Alike _ _ = ⊥
 
 pub record Laws : Type 0 where
   pub usable_when : (h : Host) (i j : ℕ) → Decides (usable h i j) (Usable h i j)

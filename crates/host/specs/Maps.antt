@@ -1,7 +1,8 @@
 -- What a map says of a card's parts and rows. Assumes nothing.
-use Rattle.std.specs.Prelude.{ℕ, zero, suc, ◌+◌, Bool, false, not, ◌&&◌, nat_lt, slice_index}
+use Rattle.std.specs.Prelude.{ℕ, zero, suc, ◌+◌, Bool, false, not, ◌&&◌, nat_lt, slice_index_or}
 use Rattle.masks.specs.Masks.{bit, none}
 use Rattle.host.specs.declared.Host.{Host}
+use Rattle.host.specs.declared.Row.{Row}
 use Rattle.host.specs.declared.part.Part.{Part}
 use Rattle.host.specs.declared.part.Part.TheVariants.{Pe, RowSwitch, ColumnSwitch}
 use Rattle.host.specs.declared.size.Size.{Size}
@@ -12,10 +13,18 @@ inside z (Pe i j) = nat_lt i z.rows && nat_lt j z.columns
 inside z (RowSwitch i j) = nat_lt i z.rows && nat_lt (j + 1) z.columns
 inside z (ColumnSwitch i j) = nat_lt (i + 1) z.rows && nat_lt j z.columns
 
+-- a row without a faulty part
+abbrev pub healthy_row : Row
+healthy_row = record { pes = 0; across = 0; down = 0 }
+
+-- row i of a map; past the last row all is healthy
+abbrev pub row_at : Host → ℕ → Row
+row_at h i = slice_index_or h.rows i healthy_row
+
 abbrev pub flag : Host → Part → Bool
-flag h (Pe i j) = bit (slice_index h.pes i) j
-flag h (RowSwitch i j) = bit (slice_index h.across i) j
-flag h (ColumnSwitch i j) = bit (slice_index h.down i) j
+flag h (Pe i j) = bit (row_at h i).pes j
+flag h (RowSwitch i j) = bit (row_at h i).across j
+flag h (ColumnSwitch i j) = bit (row_at h i).down j
 
 -- a part of the card is faulty where its flag is set
 abbrev pub faulty : Host → Part → Bool

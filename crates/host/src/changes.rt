@@ -1,8 +1,8 @@
 //! The calls that change a map. A refused one changes nothing.
-ghost use Rattle.std.specs.Prelude.{◌≡◌, ◌≤◌, true, length, if◌then◌else◌, Ok, Err};
+ghost use Rattle.std.specs.Prelude.{◌≡◌, ◌≤◌, true, length, if◌then◌else◌, Ok, Err, nat_lt, ◌==◌};
 ghost use Rattle.masks.specs.Masks.{mask};
 ghost use Rattle.host.specs.Maps.{inside};
-ghost use Rattle.host.specs.Changes.{marking, picturing, choosing, answer, after, with_part, with_choice, crossed, drawn};
+ghost use Rattle.host.specs.Changes.{marking, picturing, choosing, answer, after, with_part, with_choice, crossed, drawn, put};
 
 use crate::Host;
 use crate::part::Part;
@@ -17,10 +17,8 @@ impl Host {
         if !part.is_inside(self.size) {
             return Err(Refusal::Outside);
         }
-        if state > 1 {
-            return Err(Refusal::BadState);
-        }
-        self.set_part(part, state == 1);
+        let faulty = is_one(state)?;
+        self.set_part(part, faulty);
         Ok(())
     }
 
@@ -28,19 +26,12 @@ impl Host {
         requires { inside self.old.size part ≡ true }
         ensures { self.new ≡ with_part self.old part faulty }
     {
+        let (Part::Pe(i, j) | Part::RowSwitch(i, j) | Part::ColumnSwitch(i, j)) = part;
+        let row = &mut self.rows[usize::from(i)];
         match part {
-            Part::Pe(i, j) => {
-                let i = i as usize;
-                self.pes[i] = masks::with(self.pes[i], j, faulty);
-            }
-            Part::RowSwitch(i, j) => {
-                let i = i as usize;
-                self.across[i] = masks::with(self.across[i], j, faulty);
-            }
-            Part::ColumnSwitch(i, j) => {
-                let i = i as usize;
-                self.down[i] = masks::with(self.down[i], j, faulty);
-            }
+            Part::Pe(..) => put(&mut row.pes, j, faulty),
+            Part::RowSwitch(..) => put(&mut row.across, j, faulty),
+            Part::ColumnSwitch(..) => put(&mut row.down, j, faulty),
         }
     }
 
@@ -52,11 +43,10 @@ impl Host {
         if row >= self.size.rows() {
             return Err(Refusal::Outside);
         }
-        if text.len() != self.size.columns() as usize {
+        if text.len() != usize::from(self.size.columns()) {
             return Err(Refusal::BadLength);
         }
-        let crosses = crosses(text)?;
-        self.pes[row as usize] = crosses;
+        self.rows[usize::from(row)].pes = crosses(text)?;
         Ok(())
     }
 
@@ -68,10 +58,8 @@ impl Host {
         if row >= self.size.rows() {
             return Err(Refusal::Outside);
         }
-        if state > 1 {
-            return Err(Refusal::BadState);
-        }
-        self.choice = masks::with(self.choice, row, state == 1);
+        let chosen = is_one(state)?;
+        self.choice = masks::with(self.choice, row, chosen);
         Ok(())
     }
 
@@ -80,6 +68,24 @@ impl Host {
         ensures { self.new ≡ with_choice self.old rows }
     {
         self.choice = rows;
+    }
+}
+
+/// Sets a column's bit.
+fn put(bits: &mut u64, column: u8, on: bool)
+    ensures { bits.new ≡ put bits.old column on }
+{
+    *bits = masks::with(*bits, column, on);
+}
+
+/// Whether a state is 1, where it has to be 0 or 1.
+fn is_one(state: u8) -> Result<bool, Refusal>
+    ensures { result ≡ (if nat_lt 1 state then Err Refusal.BadState else Ok (state == 1)) }
+{
+    match state {
+        0 => Ok(false),
+        1 => Ok(true),
+        _ => Err(Refusal::BadState),
     }
 }
 

@@ -15,15 +15,22 @@ mod tests;
 
 use size::Size;
 
-/// A card's map. Bit j of a table's number i speaks of the PE or switch (i, j), and is set where that is faulty.
+/// What is faulty in row i of a card: bit j is set where the PE or switch (i, j) is.
+#[derive(Clone, Copy, Default)]
+pub struct Row {
+    /// faulty PEs
+    pes: u64,
+    /// faulty row switches
+    across: u64,
+    /// faulty column switches
+    down: u64,
+}
+
+/// A card's map.
 #[derive(Drop)]
 pub struct Host {
     size: Size,
-    pes: [u64; 64],
-    /// row switches
-    across: [u64; 64],
-    /// column switches
-    down: [u64; 64],
+    rows: [Row; 64],
     /// bit i is set where row i is chosen
     choice: u64,
 }
@@ -35,9 +42,7 @@ impl Host {
     {
         Host {
             size,
-            pes: [0; 64],
-            across: [0; 64],
-            down: [0; 64],
+            rows: [Row::default(); 64],
             choice: masks::below(size.rows()),
         }
     }

@@ -1,11 +1,11 @@
 //! What a map is asked.
 ghost use Rattle.std.specs.Prelude.{◌≡◌, ℕ, ◌<◌};
 ghost use Rattle.masks.specs.Masks.{bit, mask, how_many, least};
-ghost use Rattle.host.specs.Maps.{faulty, usable, stands};
+ghost use Rattle.host.specs.Maps.{row_at, faulty, faulty_above, usable, stands};
 
-use crate::Host;
 use crate::part::Part;
 use crate::size::Size;
+use crate::{Host, Row};
 
 impl Host {
     pub fn size(&self) -> Size
@@ -21,6 +21,13 @@ impl Host {
         self.choice
     }
 
+    fn row_at(&self, row: u8) -> Row
+        requires { row < self.now.size.rows }
+        ensures { result ≡ row_at self.now row }
+    {
+        self.rows[usize::from(row)]
+    }
+
     /// The usable PEs of a row: bit j is PE (row, j).
     pub fn usable_in(&self, row: u8) -> u64
         ensures { result ≡ mask (usable self.now row) }
@@ -28,13 +35,16 @@ impl Host {
         if row >= self.size.rows() {
             return 0;
         }
-        let above = if row == 0 {
-            0
-        } else {
-            self.switches_below(row - 1)
-        };
-        let unusable = self.pes[row as usize] | above | self.switches_below(row);
+        let unusable = self.row_at(row).pes | self.switches_above(row) | self.switches_below(row);
         masks::without(masks::below(self.size.columns()), unusable)
+    }
+
+    /// The faulty column switches above a row: bit j is (row - 1, j).
+    fn switches_above(&self, row: u8) -> u64
+        ensures { (j : ℕ) → j < self.now.size.columns → bit result j ≡ faulty_above self.now row j }
+    {
+        row.checked_sub(1)
+            .map_or(0, |above| self.switches_below(above))
     }
 
     /// The faulty column switches below a row: bit j is (row, j).
@@ -42,7 +52,7 @@ impl Host {
         ensures { (j : ℕ) → j < self.now.size.columns → bit result j ≡ faulty self.now (Part.ColumnSwitch row j) }
     {
         if row < self.size.rows() - 1 {
-            self.down[row as usize]
+            self.row_at(row).down
         } else {
             0
         }
@@ -68,7 +78,7 @@ impl Host {
             return false;
         }
         let switches = masks::below(self.size.columns() - 1);
-        masks::has(self.choice, row) && masks::common(self.across[row as usize], switches) == 0
+        masks::has(self.choice, row) && masks::common(self.row_at(row).across, switches) == 0
     }
 
     /// The standing rows: bit i is row i.

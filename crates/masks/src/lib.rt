@@ -5,6 +5,10 @@ ghost use Rattle.std.specs.Prelude.{◌≡◌, not, ◌&&◌, if◌then◌else�
 ghost use Rattle.masks.specs.Masks.{bit, mask, how_many, least};
 ghost use Rattle.masks.specs.Laws.{Laws};
 
+pub mod iter;
+#[cfg(test)]
+mod tests;
+
 /// Whether `i` is in the set.
 pub fn has(bits: u64, i: u8) -> bool
     ensures { result ≡ bit bits i }

@@ -4,7 +4,8 @@
 ghost use Rattle.own_tariff.specs.Span.{span};
 ghost use Rattle.std.proofs.Common.{rules};
 
-use tariff::{Tariff, is_a_link, is_in_grid};
+use tariff::Tariff;
+use tariff::pe::Pe;
 
 #[cfg(test)]
 mod charges;
@@ -20,20 +21,24 @@ impl Tariff for Span {
 
     ghost lawful = { Prim.search rules };
 
-    fn entry(&self, row: u8, column: u8) -> u32 {
-        if is_in_grid(row, column) {
-            u32::from(column)
+    fn entry(&self, pe: Pe) -> u32 {
+        if pe.is_in_grid() {
+            u32::from(pe.column)
         } else {
             0
         }
     }
 
-    fn link(&self, row: u8, column: u8, lower: u8, to: u8) -> u32 {
-        if !is_a_link(row, column, lower, to) {
+    fn link(&self, upper: Pe, lower: Pe) -> u32 {
+        if !upper.can_link_to(lower) {
             return 0;
         }
-        let rows = u32::from(lower) - u32::from(row);
-        if column == to { rows } else { rows + 8 }
+        let rows = u32::from(lower.row) - u32::from(upper.row);
+        if upper.column == lower.column {
+            rows
+        } else {
+            rows + 8
+        }
     }
 
     fn ceiling(&self) -> u32 {

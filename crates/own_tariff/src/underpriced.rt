@@ -5,6 +5,7 @@ use prices::some_column_underpriced;
 use std::test::Fail;
 use tariff::heat::Heat;
 use tariff::links::Links;
+use tariff::pe::Pe;
 
 // 2 by 3, PEs (0,0) and (1,2) faulty: two columns, each with one long link.
 #[test]
@@ -69,10 +70,10 @@ fn no_column_no_price(rt: HostRuntime) {
 #[test]
 fn heat_of_the_first_row(rt: HostRuntime) -> Result<(), Fail> {
     let mut heat = Heat::new(Links);
-    heat.set(0, 1, 2)?;
-    heat.set(1, 0, 5)?;
-    heat.set(1, 1, 9)?;
-    heat.set(1, 2, 3)?;
+    heat.set(Pe::at(0, 1), 2)?;
+    heat.set(Pe::at(1, 0), 5)?;
+    heat.set(Pe::at(1, 1), 9)?;
+    heat.set(Pe::at(1, 2), 3)?;
     let mut usable = [0; 64];
     usable[0] = 0b010;
     usable[1] = 0b111;

@@ -1,77 +1,64 @@
--- Rows of prices as lists of 64, and one row more. Assumes nothing.
-use Rattle.std.proofs.Common.{◌≡◌, ℕ, ◌+◌, ◌<◌, ◌≤◌, Bool, true, false, ◌&&◌, ◌≢◌, ◌↔◌, List, [], ◌∷◌, ◌++◌, length, set, replicate, Some, None, Option, sym, refl, ap, ◌∙◌, ap₂, ⊎_elim, arith, get_or-set_other, get_or-set_same, below_more}
+-- Rows of prices as lists of 64. Assumes nothing.
+use Rattle.std.proofs.Common.{◌≡◌, ℕ, ◌<◌, true, ◌&&◌, ◌↔◌, List, ◌∷◌, length, set, replicate, min, sym, subst, ap, ◌∙◌, inl, inr, ⊎_elim, arith, get_or-set_other, get_or-set_same}
+use Rattle.std.specs.List.{AllByRecursion}
 use lib.ListN.{length-replicate, get_or-replicate}
 use Rattle.std.proofs.lemmas.List.{get_or_past}
-use Rattle.std.proofs.lemmas.Bool.{cases_lt, lt-ltb, le-ltb}
+use Rattle.std.proofs.lemmas.Bool.{cases_lt, cases_eq, cases_Bool, lt-ltb, and_parts, ltb-true}
 use Rattle.masks.specs.Masks.{bit}
+use Rattle.masks.specs.Members.{members}
 use Rattle.tariff.specs.Meaning.{Meaning}
-use Rattle.masks.specs.Members.{passing}
-use Rattle.masks.proofs.Members.{passing-none, passing_yes, passing_no}
-use Rattle.plans.specs.Columns.{Card}
 use Rattle.plans.specs.Tolls.{Tolls, worth, Underpriced}
-use Rattle.plans.specs.Least.{capped, coming_to, least_row, least_below, least}
+use Rattle.plans.specs.Least.{capped, least}
+use Rattle.plans.specs.Masked.{in_mask, masked, price_row}
 use Rattle.plans.proofs.Cards as Cards
 use Rattle.plans.proofs.Leasts as Leasts
-use Rattle.plans.proofs.Leasts.{row_after, row_after-more, least-more}
-use Rattle.plans.specs.Masked.{in_mask, masked, price_row}
+use Rattle.plans.proofs.Passing.{passing_each, passing-whole}
 
--- a loop that writes f n at n, for each n in turn
-pub set_more : (f : ℕ → ℕ) (xs : List ℕ) (n v : ℕ) → n < length xs → ((k : ℕ) → k < n → price_row xs k ≡ f k) → v ≡ f n → (k : ℕ) → k < n + 1 → price_row (set xs n v) k ≡ f k
-set_more f xs n v h below e =
-    below_more _ _ (λ k l. let ne : k ≢ n = omega arith in rw get_or-set_other (below k l)) (rw get_or-set_same e)
+none_at : (n k : ℕ) → price_row (replicate n worth) k ≡ worth
+none_at n k = ⊎_elim (get_or-replicate n k worth worth) (λ l. get_or_past (replicate n worth) k worth (rw length-replicate l)) (cases_lt k n)
 
--- a PE of the mask, priced by what comes to it and its toll
-pub capped-in_mask : (mask j v p t q u : ℕ) (b : Bool) → j < 64 → v ≡ capped b (p + t) → b ≡ bit mask j → p ≡ q → t ≡ u → v ≡ capped (in_mask mask j) (q + u)
-capped-in_mask mask j v p t q u b l e on comes pays =
-    e ∙ ap₂ capped (on ∙ ap (λ x. x && bit mask j) (sym (lt-ltb j 64 l))) (ap₂ (λ (x y : ℕ). x + y) comes pays)
+pub none_yet : (n : ℕ) → price_row (replicate n worth) ≡ (λ k. worth)
+none_yet n = λ i k. none_at n k i
 
-module _ (mask : ℕ) (m : Meaning) (toll : ℕ → ℕ) (from : Option ℕ) (q : ℕ) where
-  -- a row that is right up to column 63 is right everywhere
-  pub whole-row : (above : ℕ → ℕ) (xs : List ℕ) (n : ℕ) → length xs ≡ 64 → 64 ≤ n →
-      ((k : ℕ) → k < n → price_row xs k ≡ least_row (in_mask mask) m toll from above q k) → (k : ℕ) → price_row xs k ≡ least_row (in_mask mask) m toll from above q k
-  whole-row above xs n long all inside k = ⊎_elim
-      (λ l. inside k (omega arith))
-      (λ l. get_or_past xs k worth (omega arith) ∙ ap (λ t. capped (t && bit mask k) (coming_to m from above q k + toll k)) (sym (le-ltb k 64 l)))
-      (cases_lt k 64)
+-- x is a number of 0 to 63 whose bit is in a mask
+abbrev pub MemberOf : ℕ → ℕ → Type 0
+MemberOf mask x = (x < 64) × (bit mask x ≡ true)
 
-none_yet : (n k : ℕ) → price_row (replicate n worth) k ≡ worth
-none_yet n k = ⊎_elim (get_or-replicate n k worth worth) (λ l. get_or_past (replicate n worth) k worth (rw length-replicate l)) (cases_lt k n)
+pub members_each : (mask : ℕ) → AllByRecursion (MemberOf mask) (members (bit mask))
+members_each mask = passing_each (bit mask) 64
 
--- the least prices of the last of the rows so far, and that row
-pub record Sofar (c : Card) (m : Meaning) (toll : Tolls) (rows : List ℕ) (above : Option ℕ) (least : List ℕ) : Type 0 where
-  pub row_above : above ≡ row_after None rows
-  pub are_least : (k : ℕ) → price_row least k ≡ least_below c m toll None (λ j. worth) rows k
+pub first_and_rest : (P : ℕ → Type 0) (xs rest : List ℕ) (x : ℕ) → xs ≡ x ∷ rest → AllByRecursion P xs → P x × AllByRecursion P rest
+first_and_rest P xs rest x e all = subst (AllByRecursion P) e all
 
-module _ (c : Card) (m : Meaning) (toll : Tolls) where
-  row-more : (rows : List ℕ) (q : ℕ) (above : Option ℕ) (least next : List ℕ) → Sofar c m toll rows above least →
-      ((k : ℕ) → price_row next k ≡ least_row (c.usable q) m (toll q) above (price_row least) q k) → Sofar c m toll (rows ++ (q ∷ [])) (Some q) next
-  row-more rows q above least next so step =
-      let same : price_row least ≡ least_below c m toll None (λ j. worth) rows = λ i k. so.are_least k i in
-      record {
-        row_above = sym (row_after-more None rows q);
-        are_least = λ k.
-            step k
-            ∙ ap₂ (λ from before. least_row (c.usable q) m (toll q) from before q k) so.row_above same
-            ∙ sym (ap (λ f. f k) (least-more c m toll None (λ j. worth) rows q));
-      }
+-- k is none of xs
+abbrev pub NotIn : List ℕ → ℕ → Type 0
+NotIn xs k = AllByRecursion (λ x. x ≡ k → ⊥) xs
 
-  module _ (test : ℕ → Bool) where
-    pub sofar_none : Sofar c m toll (passing test 0) None (replicate 64 worth)
-    sofar_none = rw (passing-none test) (record { row_above = refl; are_least = none_yet 64 })
+-- what is no member of a mask has no price
+pub worth_outside : (mask : ℕ) (p : ℕ → ℕ) (k : ℕ) → NotIn (members (bit mask)) k → price_row (replicate 64 worth) k ≡ capped (in_mask mask k) (p k)
+worth_outside mask p k out = none_at 64 k ∙ elim (cases_Bool (in_mask mask k)) [
+  | inl on ↦
+      let parts = and_parts _ _ on in
+      absurd (passing-whole (bit mask) 64 k (ltb-true k 64 parts.0) parts.1 out)
+  | inr off ↦ ap (λ b. capped b (p k)) (sym off)
+]
 
-    pub sofar_no : (n : ℕ) (above : Option ℕ) (least : List ℕ) → Sofar c m toll (passing test n) above least → test n ≡ false → Sofar c m toll (passing test (n + 1)) above least
-    sofar_no n above least so off = rw (passing_no test n off) so
+-- what is one has a price up to the worth
+pub priced_inside : (mask j v p : ℕ) → MemberOf mask j → v ≡ min worth p → v ≡ capped (in_mask mask j) p
+priced_inside mask j v p inside e = e ∙ ap (λ b. capped b p) (sym (ap (λ b. b && bit mask j) (lt-ltb j 64 inside.0) ∙ inside.1))
 
-    pub sofar_yes : (n : ℕ) (above : Option ℕ) (least next : List ℕ) → Sofar c m toll (passing test n) above least → test n ≡ true →
-        ((k : ℕ) → price_row next k ≡ least_row (c.usable n) m (toll n) above (price_row least) n k) → Sofar c m toll (passing test (n + 1)) (Some n) next
-    sofar_yes n above least next so on step = rw (passing_yes test n on) (row-more (passing test n) n above least next so step)
+-- one price more is right
+pub set_more : (f : ℕ → ℕ) (xs left rest : List ℕ) (j v : ℕ) → left ≡ j ∷ rest → j < length xs → v ≡ f j →
+    ((k : ℕ) → NotIn left k → price_row xs k ≡ f k) → (k : ℕ) → NotIn rest k → price_row (set xs j v) k ≡ f k
+set_more f xs left rest j v e h is right k out = elim (cases_eq k j) [
+  | inl same ↦ rw same (rw get_or-set_same is)
+  | inr other ↦ rw get_or-set_other (right k (rw e ((λ here. other (sym here)), out)))
+]
 
--- after the last row, some price is below the worth exactly where some logical column is
-pub sofar_tells : (stand : ℕ) (masks : List ℕ) (m : Meaning) (toll : Tolls) (n : ℕ) (above : Option ℕ) (xs : List ℕ) →
-    Sofar (masked stand masks) m toll (passing (bit stand) n) above xs → n ≡ 64 →
-    ((j : ℕ) × (j < 64) × (price_row xs j < worth)) ↔ Underpriced (masked stand masks) m toll
-sofar_tells stand masks m toll n above xs so all =
-    let c = masked stand masks in
-    let tells = Leasts.tells c m toll (Cards.within stand masks) in
-    let same : (k : ℕ) → price_row xs k ≡ least c m toll k = λ k. so.are_least k ∙ ap (λ x. least_below c m toll None (λ j. worth) (passing (bit stand) x) k) all in
-    ((λ s. tells.1 (s.0, s.1, omega (arith, same s.0, s.2))), λ u. let s = tells.0 u in (s.0, s.1, omega (arith, same s.0, s.2)))
+-- some price of the last row is below the worth exactly where some logical column is
+pub tells_underpriced : (stand : ℕ) (masks : List ℕ) (m : Meaning) (toll : Tolls) (prices : ℕ → ℕ) → least (masked stand masks) m toll ≡ prices →
+    ((j : ℕ) × (j < 64) × (prices j < worth)) ↔ Underpriced (masked stand masks) m toll
+tells_underpriced stand masks m toll prices e =
+    let tells = Leasts.tells (masked stand masks) m toll (Cards.within stand masks) in
+    let same : (k : ℕ) → least (masked stand masks) m toll k ≡ prices k = λ k. ap (λ f. f k) e in
+    (λ s. tells.1 (s.0, s.1, omega (arith, same s.0, s.2)), λ u. let s = tells.0 u in (s.0, s.1, omega (arith, same s.0, s.2)))

@@ -4,7 +4,8 @@ ghost use Rattle.tariff.specs.Meaning.{in_grid};
 ghost use Rattle.tariff.specs.Heats.{heated, with_heat, added, heat_at, no_heat, HeatRange};
 ghost use Rattle.tariff.specs.HeatsLemmas.{heated_lawful};
 
-use crate::{Refusal, Tariff, is_a_link, is_in_grid};
+use crate::pe::Pe;
+use crate::{Refusal, Tariff};
 
 /// A tariff, and a heat of 0 to 255 for each PE.
 #[derive(Drop)]
@@ -27,24 +28,24 @@ impl<T: Tariff> Heat<T> {
     }
 
     /// Sets the heat of one PE; refused outside rows and columns 0 to 63.
-    pub fn set(&mut self, row: u8, column: u8, heat: u8) -> Result<(), Refusal>
-        ensures answer { result ≡ (if in_grid row column then Ok tt else Err Refusal.OutsideGrid) }
-        ensures heats { self.new.heats ≡ (if in_grid row column then with_heat self.old.heats row column heat else self.old.heats) }
+    pub fn set(&mut self, pe: Pe, heat: u8) -> Result<(), Refusal>
+        ensures answer { result ≡ (if in_grid pe.row pe.column then Ok tt else Err Refusal.OutsideGrid) }
+        ensures heats { self.new.heats ≡ (if in_grid pe.row pe.column then with_heat self.old.heats pe.row pe.column heat else self.old.heats) }
         ensures below { self.new.below ≡ self.old.below }
     {
-        if !is_in_grid(row, column) {
+        if !pe.is_in_grid() {
             return Err(Refusal::OutsideGrid);
         }
-        self.heats[row as usize][column as usize] = heat;
+        self.heats[usize::from(pe.row)][usize::from(pe.column)] = heat;
         Ok(())
     }
 
     // What the heat of a PE adds to a charge.
-    fn added_at(&self, row: u8, column: u8) -> u32
-        requires { in_grid row column ≡ true }
-        ensures { result ≡ added (T.meaning self.now.below).ceiling (heat_at self.now.heats row column) }
+    fn added_at(&self, pe: Pe) -> u32
+        requires { in_grid pe.row pe.column ≡ true }
+        ensures { result ≡ added (T.meaning self.now.below).ceiling (heat_at self.now.heats pe.row pe.column) }
     {
-        let heat = self.heats[row as usize][column as usize];
+        let heat = self.heats[usize::from(pe.row)][usize::from(pe.column)];
         let room = 1000 - self.below.ceiling();
         u32::from(heat).min(room)
     }
@@ -55,17 +56,17 @@ impl<T: Tariff> Tariff for Heat<T> {
 
     ghost lawful = { λ t. heated_lawful _ _ (T.lawful t.below) t.in_range };
 
-    fn entry(&self, row: u8, column: u8) -> u32 {
-        if is_in_grid(row, column) {
-            self.below.entry(row, column) + self.added_at(row, column)
+    fn entry(&self, pe: Pe) -> u32 {
+        if pe.is_in_grid() {
+            self.below.entry(pe) + self.added_at(pe)
         } else {
             0
         }
     }
 
-    fn link(&self, row: u8, column: u8, lower: u8, to: u8) -> u32 {
-        if is_a_link(row, column, lower, to) {
-            self.below.link(row, column, lower, to) + self.added_at(lower, to)
+    fn link(&self, upper: Pe, lower: Pe) -> u32 {
+        if upper.can_link_to(lower) {
+            self.below.link(upper, lower) + self.added_at(lower)
         } else {
             0
         }

@@ -2,7 +2,9 @@
 ghost use Rattle.tariff.specs.Kinds.{links};
 ghost use Rattle.std.proofs.Common.{rules};
 
-use crate::{Tariff, is_a_link};
+use crate::Tariff;
+use crate::kinds::link_by_kind;
+use crate::pe::Pe;
 
 /// Only long links are charged.
 #[derive(Clone, Copy)]
@@ -13,16 +15,12 @@ impl Tariff for Links {
 
     ghost lawful = { Prim.search rules };
 
-    fn entry(&self, row: u8, column: u8) -> u32 {
+    fn entry(&self, pe: Pe) -> u32 {
         0
     }
 
-    fn link(&self, row: u8, column: u8, lower: u8, to: u8) -> u32 {
-        if is_a_link(row, column, lower, to) && column != to {
-            1
-        } else {
-            0
-        }
+    fn link(&self, upper: Pe, lower: Pe) -> u32 {
+        link_by_kind(upper, lower, 0, 1)
     }
 
     fn ceiling(&self) -> u32 {

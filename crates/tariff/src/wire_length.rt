@@ -4,7 +4,9 @@ ghost use Rattle.tariff.specs.Kinds.{wire_length, wire_range};
 ghost use Rattle.tariff.specs.KindLaws.{by_kind_lawful, range_parts};
 ghost use Rattle.std.proofs.Common.{arith};
 
-use crate::{Refusal, Tariff, is_a_link};
+use crate::kinds::link_by_kind;
+use crate::pe::Pe;
+use crate::{Refusal, Tariff};
 
 /// The wire of a short link is d long, that of a long link 2d + w.
 #[derive(Clone, Copy)]
@@ -39,18 +41,12 @@ impl Tariff for WireLength {
 
     ghost lawful = { λ t. let range = range_parts t.d t.w t.in_range in by_kind_lawful _ _ (omega arith) (omega arith) };
 
-    fn entry(&self, row: u8, column: u8) -> u32 {
+    fn entry(&self, pe: Pe) -> u32 {
         0
     }
 
-    fn link(&self, row: u8, column: u8, lower: u8, to: u8) -> u32 {
-        if !is_a_link(row, column, lower, to) {
-            0
-        } else if column == to {
-            self.d
-        } else {
-            self.long()
-        }
+    fn link(&self, upper: Pe, lower: Pe) -> u32 {
+        link_by_kind(upper, lower, self.d, self.long())
     }
 
     fn ceiling(&self) -> u32 {

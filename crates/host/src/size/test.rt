@@ -9,7 +9,7 @@ impl Size {
     pub fn test(rows: u8, columns: u8) -> Result<Size, Refusal>
         ensures { result ≡ tested rows columns }
     {
-        if rows < 1 || rows > 64 || columns < 1 || columns > 64 {
+        if !(1..=64).contains(&rows) || !(1..=64).contains(&columns) {
             return Err(Refusal::BadSize);
         }
         Ok(Size { rows, columns })

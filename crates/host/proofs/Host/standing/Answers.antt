@@ -14,10 +14,10 @@ loop-i-preserved c =
     let i = c.loop-i.i in
     c.with-rows.ensures
     ∙ (λ p. mask (λ j. cond (eqb j i) (c.is_standing.ensures p) (bit (c.loop-i.invariant p) j)))
-    ∙ mask-more (stands h) i (omega (arith, h.size.sized.1, c.rows-i-end.ensures))
+    ∙ mask-more (stands h) i (omega (arith, h.size.sized))
 
 pub returns : goal.returns
 returns c =
     let h = c.args.self.now in
-    c.loop-i.invariant ∙ mask_all (stands h) c.loop-i.i (omega (arith, h.size.sized.1, c.rows-i-end.ensures))
-    (λ i l. no_standing h i (omega (arith, c.rows-i-end.ensures, c.loop-i-test.false)))
+    c.loop-i.invariant ∙ mask_all (stands h) c.loop-i.i (omega (arith, h.size.sized))
+    (λ i l. no_standing h i (omega arith))

@@ -5,4 +5,4 @@ use Rattle.tariff.proofs.heat.HeatTariff.link.Goals as goal
 pub overflow_add-result : goal.overflow_add-result
 overflow_add-result g c =
     let law = g.met.T.Tariff.lawful c.args.self.now.below in
-    omega (arith, law.link_limit c.args.row c.args.column c.args.lower c.args.to, law.ceiling_limit)
+    omega (arith, law.link_limit c.args.upper.row c.args.upper.column c.args.lower.row c.args.lower.column, law.ceiling_limit)

@@ -1,0 +1,21 @@
+use Rattle.std.proofs.Common.{◌≡◌, map, length, ap, ◌∙◌, arith, length-append}
+use Rattle.std.proofs.lemmas.List.{length-map}
+use Rattle.masks.specs.Masks.{mask}
+use Rattle.masks.proofs.Members.{length_passing}
+use Rattle.host.specs.Maps.{usable, stands}
+use Rattle.book.proofs.Finds.{rows_named}
+use Rattle.book.proofs.rows.usable_rows.Goals as goal
+
+pub loop-row-init : goal.loop-row-init
+loop-row-init c =
+    let h = c.args.host.now in
+    let begun : c.into_iter-row-iterator.result.left ≡ mask (stands h) =
+    ap (λ s. s.left) c.into_iter-row-iterator.ensures.into_iter_gives ∙ c.of-row-items.ensures ∙ c.standing.ensures in
+    record { can_go_on = tt; ends = tt; made = rw c.new-rows.ensures (ap (map (λ r. mask (usable h r))) (rows_named h _ begun)) }
+
+pub push-requires : goal.push-requires
+push-requires c =
+    let h = c.args.host.now in
+    let all = simp (length-append, length-map) at (ap length c.loop-row.invariant.made) in
+    let one_more = ap length c.in-Some.ensures.steps in
+    (omega arith, omega (arith, all, one_more, length_passing (stands h) 64))
