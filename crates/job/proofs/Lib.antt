@@ -1,4 +1,3 @@
 mod Overlays
-mod Lengths
 mod Readings
 mod Listings

@@ -3,21 +3,24 @@ use Rattle.std.specs.Prelude.{◌≡◌, ℕ, List, [], ◌∷◌, ◌++◌, map
 use Rattle.std.specs.List.{flat_map}
 use Rattle.host.specs.declared.Host.{Host}
 use Rattle.host.specs.declared.part.Part.TheVariants.{Pe, RowSwitch, ColumnSwitch}
+use Rattle.job.specs.declared.line.Line.{Line}
 use Rattle.job.specs.declared.record.Record.{Record}
+use Rattle.job.specs.declared.record.Kind.TheVariants.{Size as SizeKind, MarkPe, MarkRowSwitch, MarkColumnSwitch, Choose as ChooseKind, Greedy as GreedyKind}
 use Rattle.job.specs.declared.record.Call.TheVariants.{Mark, Choose, Greedy}
 use Rattle.job.specs.declared.record.Record.TheVariants.{Size, Call}
 use Rattle.job.specs.declared.refusal.Refusal.{Refusal}
-use Rattle.job.specs.Records.{Item, items}
-use Rattle.job.specs.Lines.{Line, outcome_of, line, lines, told_from, listing}
+use Rattle.job.specs.declared.record.Entry.{Entry}
+use Rattle.job.specs.Records.{code, entries}
+use Rattle.job.specs.Lines.{outcome_of, line, lines, told_from, listing}
 
 -- a record as it is written: its kind and its body
 abbrev pub kind : Record → ℕ
-kind (Size rows columns) = 16
-kind (Call (Mark (Pe i j) s)) = 17
-kind (Call (Mark (RowSwitch i j) s)) = 18
-kind (Call (Mark (ColumnSwitch i j) s)) = 19
-kind (Call (Choose i s)) = 20
-kind (Call Greedy) = 22
+kind (Size rows columns) = code SizeKind
+kind (Call (Mark (Pe i j) s)) = code MarkPe
+kind (Call (Mark (RowSwitch i j) s)) = code MarkRowSwitch
+kind (Call (Mark (ColumnSwitch i j) s)) = code MarkColumnSwitch
+kind (Call (Choose i s)) = code ChooseKind
+kind (Call Greedy) = code GreedyKind
 
 abbrev pub body : Record → List ℕ
 body (Size rows columns) = rows ∷ columns ∷ []
@@ -31,27 +34,27 @@ abbrev pub bytes : List Record → List ℕ
 bytes rs = flat_map (λ r. kind r ∷ body r) rs
 
 -- a record that is read whole
-abbrev pub whole : Record → Item
+abbrev pub whole : Record → Entry
 whole r = record { kind = kind r; content = Ok r }
 
--- the map that items leave
-unfoldable pub map_left : Option Host → List Item → Option Host
+-- the map that entries leave
+unfoldable pub map_left : Option Host → List Entry → Option Host
 map_left before [] = before
-map_left before (i ∷ is) = map_left (outcome_of before i.content).map is
+map_left before (e ∷ es) = map_left (outcome_of before e.content).map es
 
 pub record Laws : Type 0 where
   -- records written one behind the other are read as those records
-  pub reads : (rs : List Record) (more : List ℕ) → items (bytes rs ++ more) ≡ map whole rs ++ items more
+  pub reads : (rs : List Record) (more : List ℕ) → entries (bytes rs ++ more) ≡ map whole rs ++ entries more
   -- a job in which nothing is wrong is its records and nothing else
-  pub nothing_lost : (job : List ℕ) (rs : List Record) → items job ≡ map whole rs → job ≡ bytes rs
+  pub nothing_lost : (job : List ℕ) (rs : List Record) → entries job ≡ map whole rs → job ≡ bytes rs
   -- what cannot be read ends the reading
-  pub fault_last : (job : List ℕ) (is js : List Item) (i : Item) (x : Refusal) → items job ≡ is ++ i ∷ js → i.content ≡ Err x → js ≡ []
-  -- one line for each item, with its kind
-  pub one_each : (before : Option Host) (is : List Item) → map (λ (l : Line). l.kind) (lines before is) ≡ map (λ (i : Item). i.kind) is
-  -- lines depend only on the items up to them
-  pub in_order : (before : Option Host) (is js : List Item) → lines before (is ++ js) ≡ lines before is ++ lines (map_left before is) js
-  -- a refused item changes no later line
-  pub refused_silent : (before : Option Host) (is js : List Item) (i : Item) (x : Refusal) → (outcome_of (map_left before is) i.content).reply ≡ Err x →
-      lines before (is ++ i ∷ js) ≡ lines before is ++ line i.kind (Err x) ∷ lines (map_left before is) js
+  pub fault_last : (job : List ℕ) (es fs : List Entry) (e : Entry) (x : Refusal) → entries job ≡ es ++ e ∷ fs → e.content ≡ Err x → fs ≡ []
+  -- one line for each entry, with its kind
+  pub one_each : (before : Option Host) (es : List Entry) → map (λ (l : Line). l.kind) (lines before es) ≡ map (λ (e : Entry). e.kind) es
+  -- lines depend only on the entries up to them
+  pub in_order : (before : Option Host) (es fs : List Entry) → lines before (es ++ fs) ≡ lines before es ++ lines (map_left before es) fs
+  -- a refused entry changes no later line
+  pub refused_silent : (before : Option Host) (es fs : List Entry) (e : Entry) (x : Refusal) → (outcome_of (map_left before es) e.content).reply ≡ Err x →
+      lines before (es ++ e ∷ fs) ≡ lines before es ++ line e.kind (Err x) ∷ lines (map_left before es) fs
   -- the listing of a longer job begins with the listing of the shorter
   pub prefix : (rs : List Record) (more : List ℕ) → listing (bytes rs ++ more) ≡ listing (bytes rs) ++ told_from (map_left None (map whole rs)) more

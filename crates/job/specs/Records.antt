@@ -1,5 +1,7 @@
 -- How the bytes of a job are read. Assumes nothing.
-use Rattle.std.specs.Prelude.{◌≡◌, ℕ, zero, suc, ◌+◌, ◌<◌, ◌≤◌, cond, List, [], ◌∷◌, length, drop, Some, None, Ok, Err, Option, Result, ◌==◌, nat_lt, slice_index}
+use Rattle.std.specs.Prelude.{ℕ, zero, suc, ◌+◌, List, [], ◌∷◌, length, drop, find, Ok, Err, Option, Result, ◌==◌, slice_index}
+use Rattle.records.specs.declared.RecordFault.{RecordFault}
+use Rattle.records.specs.Records.{record_from}
 use Rattle.host.specs.declared.part.Part.TheVariants.{Pe, RowSwitch, ColumnSwitch}
 use Rattle.job.specs.declared.record.Entry.{Entry}
 use Rattle.job.specs.declared.record.Kind.{Kind}
@@ -8,18 +10,24 @@ use Rattle.job.specs.declared.record.Call.TheVariants.{Mark, Choose, Greedy}
 use Rattle.job.specs.declared.record.Record.{Record}
 use Rattle.job.specs.declared.record.Record.TheVariants.{Size, Call}
 use Rattle.job.specs.declared.refusal.Refusal.{Refusal}
-use Rattle.job.specs.declared.refusal.Refusal.TheVariants.{UnknownKind, CutShort}
+use Rattle.job.specs.Refusals.{of_record}
 
--- 10 to 14 and 16, in hexadecimal digits
+-- the byte of a kind
+abbrev pub code : Kind → ℕ
+code SizeKind = 0x10
+code MarkPe = 0x11
+code MarkRowSwitch = 0x12
+code MarkColumnSwitch = 0x13
+code ChooseKind = 0x14
+code GreedyKind = 0x16
+
+abbrev pub kinds : List Kind
+kinds = SizeKind ∷ MarkPe ∷ MarkRowSwitch ∷ MarkColumnSwitch ∷ ChooseKind ∷ GreedyKind ∷ []
+
 abbrev pub kind_of : ℕ → Option Kind
-kind_of b =
-    cond (b == 16) (Some SizeKind)
-    (cond (b == 17) (Some MarkPe)
-    (cond (b == 18) (Some MarkRowSwitch)
-    (cond (b == 19) (Some MarkColumnSwitch)
-    (cond (b == 20) (Some ChooseKind)
-    (cond (b == 22) (Some GreedyKind) None)))))
+kind_of b = find (λ kind. code kind == b) kinds
 
+-- how many bytes follow a kind
 abbrev pub body_length : Kind → ℕ
 body_length SizeKind = 2
 body_length MarkPe = 3
@@ -37,36 +45,30 @@ record_of MarkColumnSwitch bs = Call (Mark (ColumnSwitch (slice_index bs 0) (sli
 record_of ChooseKind bs = Call (Choose (slice_index bs 0) (slice_index bs 1))
 record_of GreedyKind bs = Call Greedy
 
--- what is read: a record or its fault, and the bytes after it; a fault ends the reading
-pub record Reading : Type 0 where
-  pub content : Result Record Refusal
-  pub rest : List ℕ
+-- the record that was found in some bytes, and the bytes behind it
+abbrev pub record_and_rest : List ℕ → Result (Kind × List ℕ) RecordFault → Result (Record × List ℕ) Refusal
+record_and_rest bs (Ok p) = Ok (record_of p.0 p.1, drop (1 + length p.1) bs)
+record_and_rest bs (Err x) = Err (of_record x)
 
-abbrev pub reading : Option Kind → List ℕ → Reading
-reading None bs = record { content = Err UnknownKind; rest = [] }
-reading (Some k) bs =
-    cond (nat_lt (length bs) (body_length k)) (record { content = Err CutShort; rest = [] })
-    (record { content = Ok (record_of k bs); rest = drop (body_length k) bs })
+-- the record that bytes begin with, and the bytes after it
+abbrev pub reading : List ℕ → Result (Record × List ℕ) Refusal
+reading bs = record_and_rest bs (record_from kind_of body_length 0 bs)
 
--- a byte of kind, with the record that it begins or the fault
-pub record Item : Type 0 where
-  pub kind : ℕ
-  pub content : Result Record Refusal
+-- what is read of a record
+abbrev pub content : Result (Record × List ℕ) Refusal → Result Record Refusal
+content (Ok p) = Ok p.0
+content (Err x) = Err x
 
--- the items of at most n bytes (each takes one byte or more)
-unfoldable pub items_by : ℕ → List ℕ → List Item
-items_by zero bs = []
-items_by (suc n) [] = []
-items_by (suc n) (b ∷ bs) =
-    let r = reading (kind_of b) bs in record { kind = b; content = r.content } ∷ items_by n r.rest
+-- where to read on; a fault ends the reading
+abbrev pub behind : Result (Record × List ℕ) Refusal → List ℕ
+behind (Ok p) = p.1
+behind (Err x) = []
 
-abbrev pub items : List ℕ → List Item
-items job = items_by (length job) job
+-- the entries of at most n bytes (each takes one byte or more)
+unfoldable pub entries_by : ℕ → List ℕ → List Entry
+entries_by zero bs = []
+entries_by (suc n) [] = []
+entries_by (suc n) (b ∷ bs) = let r = reading (b ∷ bs) in record { kind = b; content = content r } ∷ entries_by n (behind r)
 
--- what the code reads at a place of a job
-pub record ReadAt (job : List ℕ) (at : ℕ) (e : Entry) : Type 0 where
-  pub kind : e.kind ≡ slice_index job at
-  pub content : e.content ≡ (reading (kind_of (slice_index job at)) (drop (at + 1) job)).content
-  pub rest : drop e.next job ≡ (reading (kind_of (slice_index job at)) (drop (at + 1) job)).rest
-  pub forward : at < e.next
-  pub within : e.next ≤ length job
+abbrev pub entries : List ℕ → List Entry
+entries job = entries_by (length job) job

@@ -2,6 +2,8 @@
 use Rattle.std.specs.Prelude.{ℕ}
 use Rattle.host.specs.Refusals.{number as card_number}
 use Rattle.book.specs.Refusals.{number as book_number}
+use Rattle.records.specs.declared.RecordFault.{RecordFault}
+use Rattle.records.specs.declared.RecordFault.TheVariants.{UnknownKind as UnknownKindAt, CutShort as CutShortAt}
 use Rattle.job.specs.declared.refusal.Refusal.{Refusal}
 use Rattle.job.specs.declared.refusal.Refusal.TheVariants.{Size, Book, UnknownKind, CutShort, OutOfTurn}
 use Rattle.job.specs.declared.refusal.ListingRefusal.{ListingRefusal}
@@ -13,6 +15,11 @@ number (Book x) = book_number x
 number UnknownKind = 7
 number CutShort = 8
 number OutOfTurn = 9
+
+-- the refusal of a record that could not be read
+abbrev pub of_record : RecordFault → Refusal
+of_record (UnknownKindAt at) = UnknownKind
+of_record (CutShortAt at) = CutShort
 
 abbrev pub listing_number : ListingRefusal → ℕ
 listing_number ShortBuffer = 21

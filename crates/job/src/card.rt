@@ -9,19 +9,11 @@ use book::Book;
 use host::size::Size;
 use tariff::links::Links;
 
-/// What a record that is done is answered.
-#[derive(Clone, Copy)]
-pub enum Answer {
-    Done,
-    /// a number of columns, and their total charge
-    Counts(u32, u32),
-}
+/// What a record is answered: a number of columns and their total charge, where it asks for them, or why it is refused.
+pub type Reply = Result<Option<(u32, u32)>, Refusal>;
 
 /// Opens a book, or makes a call on the open one.
-pub fn apply(
-    book: &mut Option<Book<Links>>,
-    content: Result<Record, Refusal>,
-) -> Result<Answer, Refusal>
+pub fn apply(book: &mut Option<Book<Links>>, content: Result<Record, Refusal>) -> Reply
     ensures answer { result ≡ (outcome_of (option_map map_of book.old) content).reply }
     ensures map { option_map map_of book.new ≡ (outcome_of (option_map map_of book.old) content).map }
 {
@@ -29,16 +21,18 @@ pub fn apply(
         Record::Size(rows, columns) => {
             let size = Size::test(rows, columns)?;
             *book = Some(Book::open(size, Links));
-            Ok(Answer::Done)
+            Ok(None)
         }
-        Record::Call(asked) => match book.as_mut() {
-            Some(open) => call(open, asked),
-            None => Err(Refusal::OutOfTurn),
-        },
+        Record::Call(asked) => {
+            let Some(open) = book else {
+                return Err(Refusal::OutOfTurn);
+            };
+            call(open, asked)
+        }
     }
 }
 
-fn call(book: &mut Book<Links>, asked: Call) -> Result<Answer, Refusal>
+fn call(book: &mut Book<Links>, asked: Call) -> Reply
     ensures answer { result ≡ answered_by book.old.host asked }
     ensures map { book.new.host ≡ map_after book.old.host asked }
 {
@@ -48,9 +42,8 @@ fn call(book: &mut Book<Links>, asked: Call) -> Result<Answer, Refusal>
         Call::Greedy => {
             // room for the columns of any card
             let mut columns = [0u8; 4096];
-            let (number, total) = book.greedy(&mut columns)?;
-            return Ok(Answer::Counts(number, total));
+            return Ok(Some(book.greedy(&mut columns)?));
         }
     }
-    Ok(Answer::Done)
+    Ok(None)
 }

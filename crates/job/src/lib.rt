@@ -4,6 +4,7 @@
 ghost use Rattle.job.specs.Laws.{Laws};
 
 mod card;
+mod line;
 pub mod listing;
 mod page;
 mod record;

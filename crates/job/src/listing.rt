@@ -6,8 +6,9 @@ ghost use Rattle.greedy.specs.Answers.{at_front};
 ghost use Rattle.job.specs.Listings.{listed, written, printed, code};
 
 use crate::card::apply;
-use crate::page::{put_line, put_refused};
-use crate::record::Entry;
+use crate::line::{Line, refused};
+use crate::page::lay;
+use crate::record::{Entries, Entry};
 use crate::refusal::ListingRefusal;
 use book::Book;
 use tariff::links::Links;
@@ -16,23 +17,23 @@ use tariff::links::Links;
 const LONGEST: usize = 60_000;
 
 /// Writes the lines of a job over a page and answers their length. What the page has no room for is only counted.
+#[tactic(auto, using(crate::proofs::Overlays::laid_all, crate::proofs::Readings::told_none, crate::proofs::Readings::length_entries))]
 fn write(job: &[u8], page: &mut [u8]) -> usize
     requires { length job.now ≤ 60000 }
     ensures { Laid page.old 0 (listing job.now) page.new result }
 {
     let mut book: Option<Book<Links>> = None;
-    let mut at = 0;
     let mut used = 0;
-    while at < job.len() {
-        let entry = Entry::read(job, at);
-        let reply = apply(&mut book, entry.content);
-        used = put_line(page, used, entry.kind, reply);
-        at = entry.next;
+    for Entry { kind, content } in Entries(job) {
+        let reply = apply(&mut book, content);
+        let line = Line { kind, reply };
+        used = lay(page, used, &line.text());
     }
     used
 }
 
 /// Makes the listing of a job in a buffer, whole or not at all, and answers its length.
+#[tactic(auto, using(crate::proofs::Overlays::overlaid_front))]
 pub fn list(job: &[u8], out: &mut [u8]) -> Result<usize, ListingRefusal>
     ensures answer { result ≡ listed job.now (length out.old) }
     ensures buffer { out.new ≡ written result (listing job.now) out.old }
@@ -49,6 +50,7 @@ pub fn list(job: &[u8], out: &mut [u8]) -> Result<usize, ListingRefusal>
 }
 
 /// Makes what the program prints: the listing, or the line of the refusal.
+#[tactic(auto, using(crate::proofs::Overlays::overlaid_front))]
 pub fn print(job: &[u8], out: &mut [u8; 65_536]) -> usize
     ensures answer { result ≡ length (printed job.now) }
     ensures buffer { out.new ≡ at_front (printed job.now) out.old }
@@ -56,7 +58,7 @@ pub fn print(job: &[u8], out: &mut [u8; 65_536]) -> usize
 {
     match list(job, out) {
         Ok(length) => length,
-        Err(x) => put_refused(out, 0, u8::from(x)),
+        Err(x) => lay(out, 0, &refused(u8::from(x))),
     }
 }
 

@@ -1,9 +1,13 @@
 //! The records of a job: a byte of kind, and a body whose length the kind fixes.
-ghost use Rattle.std.specs.Prelude.{◌≡◌, ◌+◌, ◌<◌, ◌≤◌, length};
-ghost use Rattle.job.specs.Records.{kind_of, body_length, record_of, ReadAt};
+ghost use Rattle.std.specs.Prelude.{◌≡◌, ◌≤◌, length};
+ghost use Rattle.std.specs.Option.{ok_or};
+ghost use Rattle.std.specs.Result.{result_map_both};
+ghost use Rattle.std.specs.Iterator.{YieldsFirst, item_count};
+ghost use Rattle.job.specs.Records.{kind_of, body_length, record_of, reading, entries};
 
 use crate::refusal::Refusal;
 use host::part::Part;
+use records::{NoSuchKind, RecordKind, record_at};
 
 #[derive(Clone, Copy)]
 pub enum Kind {
@@ -32,39 +36,52 @@ pub enum Record {
     Call(Call),
 }
 
-/// What stands at a place of a job: a byte of kind with its record or what is wrong with it, and where to read on.
+/// A byte of kind, with the record that it begins or what is wrong with it.
 #[derive(Clone, Copy)]
 pub struct Entry {
     pub kind: u8,
     pub content: Result<Record, Refusal>,
-    pub next: usize,
 }
 
-impl Kind {
-    pub fn of(byte: u8) -> Option<Kind>
-        ensures { result ≡ kind_of byte }
-    {
+/// The entries that are left of a job.
+#[derive(Drop)]
+pub struct Entries<'a>(pub &'a [u8]);
+
+impl TryFrom<u8> for Kind {
+    type Error = NoSuchKind;
+
+    ghost try_from_gives = { λ byte r. r ≡ ok_or (kind_of byte) (record {}) };
+
+    fn try_from(byte: u8) -> Result<Kind, NoSuchKind> {
         match byte {
-            0x10 => Some(Kind::Size),
-            0x11 => Some(Kind::MarkPe),
-            0x12 => Some(Kind::MarkRowSwitch),
-            0x13 => Some(Kind::MarkColumnSwitch),
-            0x14 => Some(Kind::Choose),
-            0x16 => Some(Kind::Greedy),
-            _ => None,
+            0x10 => Ok(Kind::Size),
+            0x11 => Ok(Kind::MarkPe),
+            0x12 => Ok(Kind::MarkRowSwitch),
+            0x13 => Ok(Kind::MarkColumnSwitch),
+            0x14 => Ok(Kind::Choose),
+            0x16 => Ok(Kind::Greedy),
+            _ => Err(NoSuchKind),
         }
     }
+}
 
-    pub fn body_length(self) -> usize
-        ensures { result ≡ body_length self }
-    {
+impl RecordKind for Kind {
+    ghost kind_of = { kind_of };
+
+    ghost length_of = { body_length };
+
+    ghost read_from_byte = { λ byte r e. e };
+
+    fn body_length(self) -> usize {
         match self {
             Kind::Greedy => 0,
             Kind::Size | Kind::Choose => 2,
             Kind::MarkPe | Kind::MarkRowSwitch | Kind::MarkColumnSwitch => 3,
         }
     }
+}
 
+impl Kind {
     /// The record of this kind that begins a body.
     fn read(self, body: &[u8]) -> Record
         requires { body_length self ≤ length body.now }
@@ -87,33 +104,28 @@ impl Kind {
     }
 }
 
-impl Entry {
-    /// Reads what stands at a place before the end of a job.
-    pub fn read(job: &[u8], at: usize) -> Entry
-        requires { at < length job.now }
-        ensures { ReadAt job.now at result }
-    {
-        let kind = job[at];
-        let start = at + 1;
-        let Some(known) = Kind::of(kind) else {
-            return Entry {
-                kind,
-                content: Err(Refusal::UnknownKind),
-                next: job.len(),
-            };
-        };
-        if job.len() - start < known.body_length() {
-            return Entry {
-                kind,
-                content: Err(Refusal::CutShort),
-                next: job.len(),
-            };
-        }
-        let content = Ok(known.read(&job[start..]));
-        Entry {
-            kind,
-            content,
-            next: start + known.body_length(),
-        }
+/// The record that some bytes begin with, and the bytes behind it.
+fn read(bytes: &[u8]) -> Result<(Record, &[u8]), Refusal>
+    ensures { result_map_both (λ p. (p.0, p.1.now)) (λ x. x) result ≡ reading bytes.now }
+{
+    let (kind, body) = record_at::<Kind>(bytes, 0)?;
+    Ok((kind.read(body), &bytes[1 + body.len()..]))
+}
+
+impl<'a> Iterator for Entries<'a> {
+    type Item = Entry;
+
+    ghost next_gives = { YieldsFirst (λ s. entries s.0.now) };
+
+    ghost remaining = { item_count (λ s. entries s.0.now) };
+
+    #[tactic(auto, using(crate::proofs::Readings::entries_none, crate::proofs::Readings::entries_more))]
+    fn next(&mut self) -> Option<Entry> {
+        let kind = *self.0.first()?;
+        let reading = read(self.0);
+        // nothing is read behind a fault
+        self.0 = reading.map_or(&[], |(_, rest)| rest);
+        let content = reading.map(|(record, _)| record);
+        Some(Entry { kind, content })
     }
 }

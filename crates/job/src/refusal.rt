@@ -1,7 +1,9 @@
 //! Why a record of a job is refused, and why a whole listing is.
 ghost use Rattle.std.specs.Prelude.{◌≡◌};
-ghost use Rattle.job.specs.Refusals.{number, listing_number};
+ghost use Rattle.job.specs.Refusals.{number, of_record, listing_number};
 ghost use Rattle.job.specs.declared.refusal.Refusal.TheVariants.{Size, Book};
+
+use records::RecordFault;
 
 #[derive(Clone, Copy, PartialEq, Debug)]
 pub enum Refusal {
@@ -45,6 +47,17 @@ impl From<book::refusal::Refusal> for Refusal {
 
     fn from(x: book::refusal::Refusal) -> Refusal {
         Refusal::Book(x)
+    }
+}
+
+impl From<RecordFault> for Refusal {
+    ghost from_gives = { λ x r. r ≡ of_record x };
+
+    fn from(x: RecordFault) -> Refusal {
+        match x {
+            RecordFault::UnknownKind { at: _ } => Refusal::UnknownKind,
+            RecordFault::CutShort { at: _ } => Refusal::CutShort,
+        }
     }
 }
 

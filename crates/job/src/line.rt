@@ -1,0 +1,67 @@
+//! The lines of a listing, as text.
+ghost use Rattle.std.specs.Prelude.{◌≡◌, ◌<◌, true};
+ghost use Rattle.std.specs.Fmt.{digit_glyph};
+ghost use Rattle.job.specs.Lines.{counts, refused, text};
+
+use crate::card::Reply;
+use arrayvec::ArrayString;
+use itoa::Buffer;
+
+const DIGITS: [char; 16] = [
+    '0', '1', '2', '3', '4', '5', '6', '7', '8', '9', 'A', 'B', 'C', 'D', 'E', 'F',
+];
+
+/// The kind of a record, and what it is answered.
+#[derive(Clone, Copy)]
+pub struct Line {
+    pub kind: u8,
+    pub reply: Reply,
+}
+
+impl Line {
+    pub fn text(self) -> ArrayString<25>
+        ensures { result.bytes ≡ text self }
+    {
+        let mut text = ArrayString::new();
+        text.push(hex(self.kind / 16));
+        text.push(hex(self.kind % 16));
+        text.push(' ');
+        match self.reply {
+            Ok(None) => text.push_str("ok\n"),
+            Ok(Some((columns, total))) => text.push_str(&counts(columns, total)),
+            Err(x) => text.push_str(&refused(u8::from(x))),
+        }
+        text
+    }
+}
+
+/// What is told of columns: their number and total charge.
+fn counts(columns: u32, total: u32) -> ArrayString<22>
+    ensures { result.bytes ≡ counts columns total }
+{
+    let mut text = ArrayString::new();
+    text.push_str(Buffer::new().format(columns));
+    text.push(' ');
+    text.push_str(Buffer::new().format(total));
+    text.push('\n');
+    text
+}
+
+/// What is told of a refusal.
+pub fn refused(number: u8) -> ArrayString<7>
+    ensures { result.bytes ≡ refused number }
+{
+    let mut text = ArrayString::new();
+    text.push_str("no ");
+    text.push_str(Buffer::new().format(number));
+    text.push('\n');
+    text
+}
+
+/// A capital hexadecimal digit.
+fn hex(digit: u8) -> char
+    requires { digit < 16 }
+    ensures { result ≡ digit_glyph true digit }
+{
+    DIGITS[usize::from(digit)]
+}
