@@ -19,6 +19,7 @@ pub struct Line {
 }
 
 impl Line {
+    // No `Display`: a writer may fail, and what is then written is in no contract; here nothing may fail.
     pub fn text(self) -> ArrayString<25>
         ensures { result.bytes ≡ text self }
     {
@@ -59,6 +60,7 @@ pub fn refused(number: u8) -> ArrayString<7>
 }
 
 /// A capital hexadecimal digit.
+// By a table: the library writes one by `{:X}` alone, which is `Display`.
 fn hex(digit: u8) -> char
     requires { digit < 16 }
     ensures { result ≡ digit_glyph true digit }

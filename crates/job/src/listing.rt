@@ -33,6 +33,7 @@ fn write(job: &[u8], page: &mut [u8]) -> usize
 }
 
 /// Makes the listing of a job in a buffer, whole or not at all, and answers its length.
+// A buffer and a length, as the caller in C has them: there is no heap here.
 #[tactic(auto, using(crate::proofs::Overlays::overlaid_front))]
 pub fn list(job: &[u8], out: &mut [u8]) -> Result<usize, ListingRefusal>
     ensures answer { result ≡ listed job.now (length out.old) }
@@ -63,6 +64,7 @@ pub fn print(job: &[u8], out: &mut [u8; 65_536]) -> usize
 }
 
 /// Makes the listing for a caller in C, and answers its length or minus the number of the refusal.
+// A signed number is what the C interface has for a Result.
 pub fn harvest_listing(job: &[u8], out: &mut [u8]) -> i64
     ensures answer { result ≡ code (listed job.now (length out.old)) }
     ensures buffer { out.new ≡ written (listed job.now (length out.old)) (listing job.now) out.old }

@@ -23,6 +23,7 @@ pub enum Kind {
 #[derive(Clone, Copy)]
 pub enum Call {
     /// a part and its state
+    // a number, since the book's call refuses one above 1
     Mark(Part, u8),
     /// a row and its state
     Choose(u8, u8),
@@ -37,6 +38,7 @@ pub enum Record {
 }
 
 /// A byte of kind, with the record that it begins or what is wrong with it.
+// The byte itself, since the line of an unknown kind tells it too.
 #[derive(Clone, Copy)]
 pub struct Entry {
     pub kind: u8,
@@ -83,6 +85,7 @@ impl RecordKind for Kind {
 
 impl Kind {
     /// The record of this kind that begins a body.
+    // By index: slice patterns would need an arm that no body takes.
     fn read(self, body: &[u8]) -> Record
         requires { body_length self ≤ length body.now }
         ensures { result ≡ record_of self body.now }

@@ -8,6 +8,7 @@ use crate::state::State;
 use records::record_at;
 
 /// A sheet, what of it has come, and the place of the next record.
+// No iterator: a fault leaves it where it was, so it would give that fault for ever.
 #[derive(Clone, Copy)]
 pub struct Reader<'a> {
     sheet: &'a [u8],

@@ -43,6 +43,7 @@ impl From<host::refusal::Refusal> for Refusal {
 }
 
 /// What has been written, and how many bytes.
+// The buffer is given at each call, since it stays the producer's between them.
 #[derive(Clone, Copy)]
 pub struct Writer {
     state: State,
