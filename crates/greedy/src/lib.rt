@@ -38,7 +38,7 @@ pub fn laws()
 {}
 
 /// Whether a column can be completed from the PE in this column of the first row; it is written to `path`.
-// A yes or no, since the column itself lies in the caller's buffer; a struct of both slices needs two clauses for this one fact.
+// A yes or no, since the column lies in the caller's buffer. A struct of the slices would tell both loans in each contract.
 #[cycle(reaching)]
 fn reach(column: u8, untried: &mut [u64], path: &mut [u8]) -> bool
     requires { length path.old ≡ length untried.old }

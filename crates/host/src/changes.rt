@@ -18,7 +18,7 @@ impl Host {
         if !part.is_inside(self.size) {
             return Err(Refusal::Outside);
         }
-        let faulty = is_one(state)?;
+        let faulty = to_bool(state)?;
         self.set_part(part, faulty);
         Ok(())
     }
@@ -60,7 +60,7 @@ impl Host {
         if row >= self.size.rows() {
             return Err(Refusal::Outside);
         }
-        let chosen = is_one(state)?;
+        let chosen = to_bool(state)?;
         self.choice = masks::with(self.choice, row, chosen);
         Ok(())
     }
@@ -80,8 +80,9 @@ fn put(bits: &mut u64, column: u8, on: bool)
     *bits = masks::with(*bits, column, on);
 }
 
-/// Whether a state is 1, where it has to be 0 or 1.
-fn is_one(state: u8) -> Result<bool, Refusal>
+/// A state that has to be 0 or 1.
+// No `TryFrom`: both types are the library's.
+fn to_bool(state: u8) -> Result<bool, Refusal>
     ensures { result ≡ (if nat_lt 1 state then Err Refusal.BadState else Ok (state == 1)) }
 {
     match state {

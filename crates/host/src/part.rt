@@ -4,6 +4,8 @@ ghost use Rattle.host.specs.Maps.{inside};
 
 use crate::size::Size;
 
+/// A part, by its kind, row and column.
+// By numbers: a switch is named after the PE at its left or upper end, but is none.
 #[derive(Clone, Copy, PartialEq, Debug)]
 pub enum Part {
     Pe(u8, u8),

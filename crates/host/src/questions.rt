@@ -86,7 +86,7 @@ impl Host {
         ensures { result ≡ mask (stands self.now) }
     {
         let mut rows = 0;
-        // No `fold`: the check finds no proof of what its closure gives.
+        // No `fold`: of what its closure gives, neither the check nor `search (rules, ranges)` finds a proof.
         for i in 0..self.size.rows() {
             rows = masks::with(rows, i, self.is_standing(i));
         }

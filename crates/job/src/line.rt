@@ -7,10 +7,6 @@ use crate::card::Reply;
 use arrayvec::ArrayString;
 use itoa::Buffer;
 
-const DIGITS: [char; 16] = [
-    '0', '1', '2', '3', '4', '5', '6', '7', '8', '9', 'A', 'B', 'C', 'D', 'E', 'F',
-];
-
 /// The kind of a record, and what it is answered.
 #[derive(Clone, Copy)]
 pub struct Line {
@@ -19,6 +15,7 @@ pub struct Line {
 }
 
 impl Line {
+    /// The text of the line, with its end.
     // No `Display`: a writer may fail, and what is then written is in no contract; here nothing may fail.
     pub fn text(self) -> ArrayString<25>
         ensures { result.bytes ≡ text self }
@@ -60,10 +57,11 @@ pub fn refused(number: u8) -> ArrayString<7>
 }
 
 /// A capital hexadecimal digit.
-// By a table: the library writes one by `{:X}` alone, which is `Display`.
 fn hex(digit: u8) -> char
     requires { digit < 16 }
     ensures { result ≡ digit_glyph true digit }
 {
-    DIGITS[usize::from(digit)]
+    char::from_digit(u32::from(digit), 16)
+        .unwrap()
+        .to_ascii_uppercase()
 }

@@ -25,7 +25,7 @@ pub enum Call {
     /// a part and its state
     // a number, since the book's call refuses one above 1
     Mark(Part, u8),
-    /// a row and its state
+    /// a row and its state, a number too
     Choose(u8, u8),
     Greedy,
 }

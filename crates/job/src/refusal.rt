@@ -12,6 +12,7 @@ pub enum Refusal {
     /// by the book
     Book(book::refusal::Refusal),
     /// a kind of record that there is not
+    // not the record's own fault, since a listing tells no place
     UnknownKind,
     /// a body that the job's end cuts short
     CutShort,

@@ -5,8 +5,8 @@ ghost use Rattle.std.specs.Prelude.{◌≡◌, length};
 ghost use Rattle.job.specs.Lines.{listing};
 ghost use Rattle.job.specs.Listings.{listed, written, code};
 
-// A function of its own, since a crate is a library or a static library, and `job` is the first.
 /// Makes the listing for a caller in C, and answers its length or minus the number of the refusal.
+// A function beside that of `job`, whose tests call it there: a crate is a library or a static library, not both.
 #[unsafe(no_mangle)]
 pub extern "C" fn harvest_listing(job: &[u8], out: &mut [u8]) -> i64
     ensures answer { result ≡ code (listed job.now (length out.old)) }

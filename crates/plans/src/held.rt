@@ -9,7 +9,7 @@ pub struct HeldRow {
 }
 
 /// A family: its PEs in each standing row, going down. What lies past its rows and its number of columns has no meaning.
-// Arrays by value with a number beside them, since a book keeps its plan in fixed memory.
+// Arrays with a number beside them: a plan is a plain value in fixed memory, and an `ArrayVec` is not copied.
 #[derive(Clone, Copy)]
 pub struct HeldFamily {
     pub rows: [HeldRow; 64],

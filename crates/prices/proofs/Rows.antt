@@ -30,6 +30,9 @@ members_each mask = passing_each (bit mask) 64
 pub first_and_rest : (P : ℕ → Type 0) (xs rest : List ℕ) (x : ℕ) → xs ≡ x ∷ rest → AllByRecursion P xs → P x × AllByRecursion P rest
 first_and_rest P xs rest x e all = subst (AllByRecursion P) e all
 
+pub first_inside : (mask : ℕ) (xs rest : List ℕ) (x : ℕ) → xs ≡ x ∷ rest → AllByRecursion (MemberOf mask) xs → x < 64
+first_inside mask xs rest x e all = (first_and_rest (MemberOf mask) xs rest x e all).0.0
+
 -- k is none of xs
 abbrev pub NotIn : List ℕ → ℕ → Type 0
 NotIn xs k = AllByRecursion (λ x. x ≡ k → ⊥) xs

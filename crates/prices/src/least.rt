@@ -29,6 +29,7 @@ impl Least {
     }
 
     /// Those of the next standing row, by its usable PEs and its tolls.
+    #[tactic(auto, using(crate::proofs::Rows::first_inside))]
     pub fn below<T: Tariff>(&self, tariff: &T, row: u8, usable: u64, tolls: &[u32; 64]) -> Least
         ensures row { result.row ≡ Some row }
         ensures prices { price_row result.prices ≡ least_row (in_mask usable) (T.meaning tariff.now) (toll_row tolls.now) self.now.row (price_row self.now.prices) row }

@@ -11,9 +11,10 @@ use tariff::Tariff;
 
 mod least;
 
-// Two tables by row, not one of pairs: the usable PEs are the map's, the tolls a sheet's.
 /// Whether some logical column is priced below the worth: bit r of `standing` says that row r stands, bit j of `usable[r]` that the
 /// PE in row r and column j is usable, and `tolls[r][j]` is its toll.
+// Two tables by row, not one of pairs: the usable PEs are the map's, the tolls a sheet's.
+#[tactic(auto, using(masks::proofs::Members::passing_below))]
 pub fn some_column_underpriced<T: Tariff>(
     tariff: &T,
     standing: u64,

@@ -1,6 +1,5 @@
 -- What a record that was found says of the bytes. Assumes nothing.
-use Rattle.std.proofs.Common.{◌≡◌, ℕ, ◌+◌, ◌<◌, ◌≤◌, List, ◌∷◌, length, get_or, take, drop, Some, Ok, Option, sym, ap, ◌∙◌, arith}
-use Rattle.std.proofs.lemmas.List.{drop_more}
+use Rattle.std.proofs.Common.{◌≡◌, ℕ, ◌≤◌, List, ◌∷◌, length, take, Some, Ok, Option, arith}
 use Rattle.std.proofs.lemmas.Grind.{common_steps}
 use Rattle.records.specs.Records.{record_from}
 
@@ -14,8 +13,3 @@ module _ {K : Type 0} (kind_of : ℕ → Option K) (length_of : K → ℕ) where
 
   pub found : (at first : ℕ) (rest : List ℕ) (p : K × List ℕ) → record_from kind_of length_of at (first ∷ rest) ≡ Ok p → Found first rest p
   found at first rest p e = grind (arith, common_steps)
-
-  -- the same at a place of some bytes
-  pub found_at : (at : ℕ) (bytes : List ℕ) (p : K × List ℕ) → at < length bytes → record_from kind_of length_of at (drop at bytes) ≡ Ok p →
-      Found (get_or bytes at 0) (drop (at + 1) bytes) p
-  found_at at bytes p l e = found at (get_or bytes at 0) (drop (at + 1) bytes) p (ap (record_from kind_of length_of at) (sym (drop_more bytes at 0 l)) ∙ e)

@@ -1,6 +1,5 @@
 -- A sheet, whatever the card: records, each in its turn, up to the end record or the first fault. Assumes nothing.
 use Rattle.std.specs.Prelude.{ℕ, zero, suc, ◌+◌, cond, ◌&&◌, List, [], ◌∷◌, length, drop, Some, None, Ok, Err, Option, Result, nat_lt}
-use Rattle.std.specs.Borrow.{Bor}
 use Rattle.records.specs.declared.RecordFault.{RecordFault}
 use Rattle.sheet.specs.declared.fault.SheetFault.{SheetFault}
 use Rattle.sheet.specs.declared.fault.SheetFault.TheVariants.{Record as InRecord, OutOfTurn, NoEnd, AfterEnd}
@@ -26,12 +25,12 @@ abbrev pub next : State → ℕ → List ℕ → Result (Record × State) SheetF
 next s at [] = Err (NoEnd at)
 next s at (b ∷ bs) = found s at (length (b ∷ bs)) (record_from at (b ∷ bs))
 
-abbrev pub new_reader : Bor (List ℕ) → Reader
-new_reader sheet = record { sheet = sheet; state = Opening; at = 0 }
+abbrev pub new_reader : Reader
+new_reader = record { state = Opening; at = 0 }
 
--- what a reader takes
-abbrev pub taken : Reader → Result (Record × State) SheetFault
-taken r = next r.state r.at (drop r.at r.sheet.now)
+-- what a reader takes from a sheet
+abbrev pub taken : Reader → List ℕ → Result (Record × State) SheetFault
+taken r sheet = next r.state r.at (drop r.at sheet)
 
 abbrev pub answer_of : Result (Record × State) SheetFault → Result Record SheetFault
 answer_of (Ok p) = Ok p.0
@@ -39,7 +38,7 @@ answer_of (Err x) = Err x
 
 -- a fault leaves the reader where it was
 abbrev pub reader_after : Reader → Result (Record × State) SheetFault → Reader
-reader_after r (Ok p) = record r { state = p.1; at = r.at + size p.0 }
+reader_after r (Ok p) = record { state = p.1; at = r.at + size p.0 }
 reader_after r (Err x) = r
 
 -- the records of a sheet, each with the place of its kind, up to the place of the end record or a fault

@@ -10,6 +10,7 @@ pub struct Pe {
 }
 
 impl Pe {
+    /// The PE in a row and physical column.
     pub fn at(row: u8, column: u8) -> Pe
         ensures row { result.row ≡ row }
         ensures column { result.column ≡ column }

@@ -21,7 +21,7 @@ impl WireLength {
     pub fn new(d: u32, w: u32) -> Result<WireLength, Refusal>
         ensures { MatchResult result (λ t. (wire_range d w ≡ true) × (t.d ≡ d) × (t.w ≡ w)) (λ e. (wire_range d w ≡ false) × (e ≡ Refusal.WireOutOfRange)) }
     {
-        if 1 <= d && d <= 250 && 1 <= w && w <= 500 {
+        if (1..=250).contains(&d) && (1..=500).contains(&w) {
             Ok(WireLength { d, w })
         } else {
             Err(Refusal::WireOutOfRange)

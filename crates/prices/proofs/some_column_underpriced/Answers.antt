@@ -1,15 +1,8 @@
-use Rattle.std.proofs.Common.{ap, ◌∙◌, arith}
-use Rattle.masks.proofs.Members.{passing_below}
+use Rattle.std.proofs.Common.{ap, ◌∙◌}
 use Rattle.plans.specs.Least.{least_below}
 use Rattle.plans.specs.Masked.{masked, toll_table}
 use Rattle.prices.proofs.Rows.{tells_underpriced}
 use Rattle.prices.proofs.some_column_underpriced.Goals as goal
-
-pub bounds-usable-i : goal.bounds-usable-i
-bounds-usable-i g c = omega (arith, passing_below _ 64 _ _ c.in-Some.ensures.steps)
-
-pub bounds-tolls-i : goal.bounds-tolls-i
-bounds-tolls-i g c = omega (arith, passing_below _ 64 _ _ c.in-Some.ensures.steps)
 
 pub returns : goal.returns
 returns g c =

@@ -18,21 +18,6 @@ loop-column-init g c =
       right = λ k out. worth_outside c.args.usable p k (rw begun at out);
     }
 
-pub price_to-requires : goal.price_to-requires
-price_to-requires g c =
-    let here = first_and_rest (MemberOf c.args.usable) _ _ _ c.in-Some.ensures.steps c.loop-column.invariant.inside in
-    omega (arith, here.0.0)
-
-pub bounds-tolls-j : goal.bounds-tolls-j
-bounds-tolls-j g c =
-    let here = first_and_rest (MemberOf c.args.usable) _ _ _ c.in-Some.ensures.steps c.loop-column.invariant.inside in
-    omega (arith, here.0.0)
-
-pub bounds-prices-j : goal.bounds-prices-j
-bounds-prices-j g c =
-    let here = first_and_rest (MemberOf c.args.usable) _ _ _ c.in-Some.ensures.steps c.loop-column.invariant.inside in
-    omega (arith, here.0.0)
-
 pub loop-column-preserved : goal.loop-column-preserved
 loop-column-preserved g c =
     let m = g.T.Tariff.meaning c.args.tariff.now in
