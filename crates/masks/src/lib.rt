@@ -1,5 +1,6 @@
 //! Sets of the numbers 0 to 63, each held as the bits of a `u64`.
 #![tactic(auto)]
+// No type of its own: sheets, C callers and `count_ones` have the number, and would wrap it at each call.
 
 ghost use Rattle.std.specs.Prelude.{◌≡◌, not, ◌&&◌, if◌then◌else◌, nat_eq, nat_lt};
 ghost use Rattle.masks.specs.Masks.{bit, mask, how_many, least};

@@ -34,6 +34,7 @@ pub struct Head {
 }
 
 /// What is asked for a PE.
+// By numbers, as its bytes have them: a sheet knows no card.
 #[derive(Clone, Copy, PartialEq, Eq, Debug)]
 pub struct Toll {
     pub row: u8,

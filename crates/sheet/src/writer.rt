@@ -52,6 +52,7 @@ pub struct Writer {
 
 impl Writer {
     /// Writes the head of a sheet at the front of a buffer, behind which starts, steps, tolls and the end are put.
+    // By numbers and not by a `Head`, since they are tested before there is one.
     pub fn open(rows: u8, columns: u8, standing: u64, out: &mut [u8]) -> Result<Writer, Refusal>
         ensures answer { result ≡ opening_answer rows columns standing (length out.old) }
         ensures buffer { out.new ≡ opening_buffer rows columns standing out.old }

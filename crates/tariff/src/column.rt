@@ -9,6 +9,7 @@ use crate::pe::Pe;
 use masks::iter::Members;
 
 /// The charge of the column that has its PE of each standing row, going down, in the physical column given for it.
+// The tariff and the standing rows go apart here and above, since a book, a sheet and a test hold them apart.
 pub fn column_charge<T: Tariff>(tariff: &T, standing: u64, columns: &[u8]) -> u32
     ensures { result ≡ charge (T.meaning tariff.now) (members (bit standing)) columns.now }
 {
