@@ -1,5 +1,5 @@
 -- What greedy finds on a map fits its buffer. Assumes nothing.
-use Rattle.std.proofs.Common.{◌≡◌, ℕ, ◌*◌, ◌<◌, ◌≤◌, true, List, [], ◌∷◌, map, length, get_or, drop, Some, None, ap, ◌∙◌, ⊎_elim, mul-le-mul_right, arith, pow_pos}
+use Rattle.std.proofs.Common.{◌≡◌, ℕ, ◌*◌, ◌<◌, ◌≤◌, true, List, [], ◌∷◌, map, length, get_or, drop, Some, None, sym, ap, ◌∙◌, subst, ⊎_elim, mul-le-mul_right, arith, pow_pos}
 use Rattle.std.proofs.lemmas.List.{length-map}
 use Rattle.std.specs.List.{AllByRecursion}
 use Rattle.std.proofs.ByRecursion.{All-weaker}
@@ -10,6 +10,7 @@ use Rattle.masks.proofs.Bits.{bit_low}
 use Rattle.masks.proofs.Masks.{bit-mask_below}
 use Rattle.masks.proofs.Members.{passing-same}
 use Rattle.host.specs.declared.Host.{Host}
+use Rattle.host.specs.declared.size.Size.{Size}
 use Rattle.host.specs.Maps.{usable, stands}
 use Rattle.host.proofs.Rows.{no_column, bit-usable}
 use Rattle.tariff.specs.Meaning.{Meaning}
@@ -51,26 +52,40 @@ columns_long h some =
 pub rows_named : (h : Host) (m : ℕ) → m ≡ mask (stands h) → members (bit m) ≡ members (stands h)
 rows_named h m e = ap (λ x. members (bit x)) e ∙ passing-same (bit (mask (stands h))) (stands h) 64 (bit-mask_below (stands h) 64)
 
--- with the rows that the code gathered, how many they are, and a buffer with room for a full card
-module _ (h : Host) (rows : List ℕ) (all : rows ≡ usable_rows (card_of h)) (count : ℕ) (counted : count ≡ length rows) (room : ℕ) (fits : h.size.columns * count ≤ room) where
+-- the rows that the code gathered, how many they are, and a buffer with room for a full card
+pub record Ready (h : Host) (rows : List ℕ) (count room : ℕ) : Type 0 where
+  pub all : rows ≡ usable_rows (card_of h)
+  pub counted : count ≡ length rows
+  pub fits : h.size.columns * count ≤ room
+
+-- as the code tests it, with the columns that it read of the card's size
+pub ready : (h : Host) {rows items : List ℕ} {count room read columns : ℕ} {z : Size} → rows ≡ items → items ≡ usable_rows (card_of h) → count ≡ length items →
+    read ≡ columns → columns ≡ z.columns → z ≡ h.size → read * count ≤ room → Ready h rows count room
+ready h {count = count} {room = room} lent made counted wide columns size h' = record {
+  all = lent ∙ made;
+  counted = counted ∙ ap length (sym lent);
+  fits = subst (λ n. n * count ≤ room) (wide ∙ columns ∙ ap (λ (z : Size). z.columns) size) h';
+}
+
+module _ (h : Host) (rows : List ℕ) (count room : ℕ) (r : Ready h rows count room) where
   count_is : count ≡ standing (card_of h)
-  count_is = counted ∙ ap length all ∙ rows_long h
+  count_is = r.counted ∙ ap length r.all ∙ rows_long h
 
   pub starts_fit : usable_starts rows * length rows ≤ room
   starts_fit =
-      let few : usable_starts rows ≤ h.size.columns = rw all (starts_few h) in
-      rw (← counted) (omega (arith, fits, mul-le-mul_right count few))
+      let few : usable_starts rows ≤ h.size.columns = rw r.all (starts_few h) in
+      rw (← r.counted) (omega (arith, r.fits, mul-le-mul_right count few))
 
   pub columns_are : (n : ℕ) → n ≡ length (greedy rows).columns → n ≡ length (found h)
-  columns_are n e = e ∙ ap (λ rows. length (greedy rows).columns) all
+  columns_are n e = e ∙ ap (λ rows. length (greedy rows).columns) r.all
 
   pub columns_fit : (n : ℕ) → n ≡ length (greedy rows).columns → (n * count ≤ room) × (n ≤ 64)
   columns_fit n e =
       let few : n ≤ h.size.columns = omega (arith, columns_are n e, few (usable_rows (card_of h)), starts_few h) in
-      (omega (arith, fits, mul-le-mul_right count few), omega (arith, h.size.sized.3))
+      (omega (arith, r.fits, mul-le-mul_right count few), omega (arith, h.size.sized.3))
 
   pub bytes_are : (out after : List ℕ) → after ≡ at_front (one_after_another (greedy rows).columns) out → after ≡ at_front (one_after_another (found h)) out
-  bytes_are out after e = e ∙ ap (λ rows. at_front (one_after_another (greedy rows).columns) out) all
+  bytes_are out after e = e ∙ ap (λ rows. at_front (one_after_another (greedy rows).columns) out) r.all
 
   pub total_is : 0 < count → (m : Meaning) (standing-rows n : ℕ) (out after : List ℕ) → standing-rows ≡ mask (stands h) → n ≡ length (found h) → after ≡ at_front (one_after_another (found h)) out →
       charges m (members (bit standing-rows)) after count n ≡ total_charge (card_of h) m (found h)
@@ -84,4 +99,4 @@ module _ (h : Host) (rows : List ℕ) (all : rows ≡ usable_rows (card_of h)) (
   pub not_refused : 0 < count → greedy_refusal h room ≡ None
   not_refused some =
       cond-false (rowless h) (Some NoRow) _ (ne_eqb (standing (card_of h)) 0 (λ e. omega (arith, count_is)))
-      ∙ cond-false _ (Some ShortBuffer) None (le-ltb room (h.size.columns * standing (card_of h)) (omega (arith, fits, ap (λ n. h.size.columns * n) count_is)))
+      ∙ cond-false _ (Some ShortBuffer) None (le-ltb room (h.size.columns * standing (card_of h)) (omega (arith, r.fits, ap (λ n. h.size.columns * n) count_is)))
