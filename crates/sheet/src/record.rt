@@ -66,6 +66,7 @@ impl TryFrom<u8> for Kind {
 
     ghost try_from_gives = { λ byte r. r ≡ ok_or (kind_of byte) (record {}) };
 
+    // The bytes once more: a search of all kinds for the one of a byte left a goal open.
     fn try_from(byte: u8) -> Result<Kind, NoSuchKind> {
         match byte {
             0x01 => Ok(Kind::Head),
