@@ -16,14 +16,15 @@ use Rattle.host.proofs.Rows.{no_column, bit-usable}
 use Rattle.tariff.specs.Meaning.{Meaning}
 use Rattle.plans.specs.Columns.{standing, Column}
 use Rattle.plans.specs.Families.{total_charge}
+use Rattle.plans.specs.Masked.{usable_rows}
 use Rattle.plans.proofs.Places.{column}
+use Rattle.routable.specs.Cards.{card_of}
+use Rattle.routable.proofs.Cards.{rows_named}
 use Rattle.greedy.specs.Search.{usable_starts, greedy}
 use Rattle.greedy.specs.Answers.{one_after_another, at_front}
-use Rattle.greedy.specs.Laws.{usable_rows}
 use Rattle.greedy.proofs.Starts.{few, starts_inside}
 use Rattle.greedy.proofs.Cards.{family}
 use Rattle.book.specs.declared.refusal.Refusal.TheVariants.{NoRow, ShortBuffer}
-use Rattle.book.specs.Rows.{card_of}
 use Rattle.book.specs.Charges.{charges}
 use Rattle.book.specs.Calls.{found, rowless, greedy_refusal}
 use Rattle.book.proofs.Totals.{charges_columns}
@@ -47,10 +48,6 @@ rows_long h = length-map (members (stands h)) (λ i. mask (usable h i))
 columns_long : (h : Host) → 0 < standing (card_of h) → AllByRecursion (λ (a : List ℕ). length a ≡ standing (card_of h)) (found h)
 columns_long h some =
     All-weaker (Column (card_of h)) (λ a. length a ≡ standing (card_of h)) (λ a is. ((column (card_of h) a).0 is).1) (found h) (family (card_of h) some).each
-
--- the rows that a mask of standing rows names
-pub rows_named : (h : Host) (m : ℕ) → m ≡ mask (stands h) → members (bit m) ≡ members (stands h)
-rows_named h m e = ap (λ x. members (bit x)) e ∙ passing-same (bit (mask (stands h))) (stands h) 64 (bit-mask_below (stands h) 64)
 
 -- the rows that the code gathered, how many they are, and a buffer with room for a full card
 pub record Ready (h : Host) (rows : List ℕ) (count room : ℕ) : Type 0 where

@@ -14,7 +14,7 @@ use Rattle.tariff.specs.Meaning.{Meaning}
 use Rattle.plans.specs.Columns.{standing}
 use Rattle.book.specs.declared.refusal.Refusal.{Refusal}
 use Rattle.book.specs.declared.refusal.Refusal.TheVariants.{Card, NoRow, ShortBuffer}
-use Rattle.book.specs.Rows.{card_of}
+use Rattle.routable.specs.Cards.{card_of}
 use Rattle.book.specs.Calls.{counts, rowless, greedy_refusal, greedy_answer, left_out, trial_answer}
 
 -- with the choice put back the map is as before
