@@ -7,8 +7,6 @@ use Rattle.std.proofs.lemmas.Bool.{both_ways, cases_lt, ne_eqb, le-ltb, cond-fal
 use Rattle.masks.specs.Masks.{bit, mask}
 use Rattle.masks.specs.Members.{members}
 use Rattle.masks.proofs.Bits.{bit_low}
-use Rattle.masks.proofs.Masks.{bit-mask_below}
-use Rattle.masks.proofs.Members.{passing-same}
 use Rattle.host.specs.declared.Host.{Host}
 use Rattle.host.specs.declared.size.Size.{Size}
 use Rattle.host.specs.Maps.{usable, stands}
