@@ -14,9 +14,9 @@ use Rattle.book.specs.declared.refusal.Refusal.{Refusal}
 use Rattle.book.specs.declared.refusal.Refusal.TheVariants.{Card, NoRow, ShortBuffer}
 use Rattle.routable.specs.Cards.{card_of}
 
--- a mark, picture or choice is answered as the card does
-abbrev pub by_card : Result (Unit {0}) CardRefusal → Result (Unit {0}) Refusal
-by_card (Ok done) = Ok done
+-- a mark, picture or choice is refused as the card does
+abbrev pub by_card : Result Bool CardRefusal → Result (Unit {0}) Refusal
+by_card (Ok altered) = Ok tt
 by_card (Err x) = Err (Card x)
 
 -- the columns that greedy finds on a map

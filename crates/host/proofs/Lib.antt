@@ -4,3 +4,4 @@ pub mod Tables
 pub mod Places
 pub mod Repeats
 pub mod Meanings
+pub mod Altering

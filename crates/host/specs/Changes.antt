@@ -1,7 +1,7 @@
 -- How calls change a map, and which are refused. Assumes nothing.
-use Rattle.std.specs.Prelude.{ℕ, Bool, cond, not, ◌||◌, List, length, replicate, None, Option, Result, ◌==◌, nat_lt, slice_index, slice_set}
+use Rattle.std.specs.Prelude.{ℕ, Bool, false, cond, not, ◌||◌, List, length, replicate, None, Option, Result, ◌==◌, nat_lt, slice_index, slice_set}
 use Rattle.std.specs.List.{list_all}
-use Rattle.masks.specs.Masks.{bit, mask}
+use Rattle.masks.specs.Masks.{bit, mask, none}
 use Rattle.host.specs.declared.Host.{Host}
 use Rattle.host.specs.declared.Row.{Row}
 use Rattle.host.specs.declared.part.Part.{Part}
@@ -10,7 +10,7 @@ use Rattle.host.specs.declared.refusal.Refusal.{Refusal}
 use Rattle.host.specs.declared.refusal.Refusal.TheVariants.{Outside, BadState, BadLength, BadCharacter}
 use Rattle.host.specs.declared.size.Size.{Size}
 use Rattle.host.specs.Refusals.{refuse, answered, unless}
-use Rattle.host.specs.Maps.{inside, healthy_row, row_at}
+use Rattle.host.specs.Maps.{inside, healthy_row, row_at, faulty, chosen}
 
 -- all is healthy, and every row is chosen
 abbrev pub opened : Size → Host
@@ -64,6 +64,20 @@ set_by h (choosing i s) = with_choice h (put h.choice i (s == 1))
 abbrev pub after : Host → Change → Host
 after h c = unless (refusal h.size c) h (set_by h c)
 
--- what a call answers
-abbrev pub answer : Host → Change → Result (Unit {0}) Refusal
-answer h c = answered (refusal h.size c) tt
+-- two states differ
+abbrev pub unlike : Bool → Bool → Bool
+unlike a b = cond a (not b) b
+
+-- whether what a call sets is another state than it was
+abbrev pub turns : Host → Change → Bool
+turns h (marking p s) = unlike (faulty h p) (s == 1)
+turns h (picturing i text) = not (none (λ j. unlike (faulty h (Pe i j)) (crossed text j)))
+turns h (choosing i s) = unlike (chosen h i) (s == 1)
+
+-- whether a call alters a state: a refused one alters none
+abbrev pub alters : Host → Change → Bool
+alters h c = unless (refusal h.size c) false (turns h c)
+
+-- what a call answers: whether it altered a state
+abbrev pub answer : Host → Change → Result Bool Refusal
+answer h c = answered (refusal h.size c) (alters h c)

@@ -1,5 +1,5 @@
 -- Laws of maps in words of the subject. Assumes nothing.
-use Rattle.std.specs.Prelude.{◌≡◌, ℕ, ◌+◌, ◌<◌, Bool, true, false, cond, ◌&&◌, length, Some, None, Decides, Option, ◌==◌, nat_lt}
+use Rattle.std.specs.Prelude.{◌≡◌, ℕ, ◌+◌, ◌<◌, Bool, true, false, cond, ◌&&◌, length, Some, None, Decides, Option, ◌==◌, ◌≢◌, nat_lt}
 use Rattle.std.specs.Option.{unwrap_or}
 use Rattle.host.specs.declared.Host.{Host}
 use Rattle.host.specs.declared.part.Part.{Part}
@@ -7,7 +7,7 @@ use Rattle.host.specs.declared.part.Part.TheVariants.{Pe, RowSwitch, ColumnSwitc
 use Rattle.host.specs.declared.refusal.Refusal.{Refusal}
 use Rattle.host.specs.declared.size.Size.{Size}
 use Rattle.host.specs.Maps.{inside, faulty, chosen, usable, stands}
-use Rattle.host.specs.Changes.{Change, marking, picturing, choosing, opened, crossed, refusal, after}
+use Rattle.host.specs.Changes.{Change, marking, picturing, choosing, opened, crossed, refusal, after, alters}
 
 abbrev pub Healthy : Host → Part → Type 0
 Healthy h p = faulty h p ≡ false
@@ -68,6 +68,12 @@ Alike (picturing i u) (picturing k v) = i ≡ k
 Alike (choosing i s) (choosing k t) = i ≡ k
 Alike _ _ = ⊥
 
+-- a call after which the state of some place on the card is another one
+pub record Alters (h : Host) (c : Change) : Type 0 where
+  pub place : Place
+  pub here : on_card h.size place ≡ true
+  pub other : state (after h c) place ≢ state h place
+
 pub record Laws : Type 0 where
   pub usable_when : (h : Host) (i j : ℕ) → Decides (usable h i j) (Usable h i j)
   pub stands_when : (h : Host) (i : ℕ) → Decides (stands h i) (Stands h i)
@@ -79,6 +85,7 @@ pub record Laws : Type 0 where
   -- a call that is done gives each place that it names its state, and leaves every other as it was
   pub done : (h : Host) (c : Change) (q : Place) → Whole h → on_card h.size q ≡ true → refusal h.size c ≡ None →
       state (after h c) q ≡ unwrap_or (names c q) (state h q)
+  pub alters_when : (h : Host) (c : Change) → Whole h → Decides (alters h c) (Alters h c)
   -- of two calls for the same places the later one decides, and a call made twice is a call made once
   pub later : (h : Host) (c d : Change) → Alike c d → refusal h.size d ≡ None → after (after h c) d ≡ after h d
   pub twice : (h : Host) (c : Change) → after (after h c) c ≡ after h c

@@ -1,8 +1,9 @@
-//! The calls that change a map. A refused one changes nothing.
+//! The calls that change a map. A refused one changes nothing, and one that is done tells whether it altered a state.
 ghost use Rattle.std.specs.Prelude.{◌≡◌, ◌≤◌, true, length, if◌then◌else◌, Ok, Err, nat_lt, ◌==◌};
 ghost use Rattle.masks.specs.Masks.{mask};
-ghost use Rattle.host.specs.Maps.{inside};
-ghost use Rattle.host.specs.Changes.{marking, picturing, choosing, answer, after, with_part, with_choice, crossed, drawn, put};
+ghost use Rattle.masks.specs.Masks.{bit};
+ghost use Rattle.host.specs.Maps.{inside, flag};
+ghost use Rattle.host.specs.Changes.{marking, picturing, choosing, answer, after, with_part, with_choice, crossed, drawn, put, unlike};
 
 use crate::Host;
 use crate::part::Part;
@@ -11,7 +12,7 @@ use crate::refusal::Refusal;
 impl Host {
     /// Sets a part to state 0, healthy, or 1, faulty.
     // A number, since the call itself refuses any other.
-    pub fn mark(&mut self, part: Part, state: u8) -> Result<(), Refusal>
+    pub fn mark(&mut self, part: Part, state: u8) -> Result<bool, Refusal>
         ensures answer { result ≡ answer self.old (marking part state) }
         ensures map { self.new ≡ after self.old (marking part state) }
     {
@@ -19,13 +20,13 @@ impl Host {
             return Err(Refusal::Outside);
         }
         let faulty = to_bool(state)?;
-        self.set_part(part, faulty);
-        Ok(())
+        Ok(self.set_part(part, faulty))
     }
 
-    fn set_part(&mut self, part: Part, faulty: bool)
+    fn set_part(&mut self, part: Part, faulty: bool) -> bool
         requires { inside self.old.size part ≡ true }
-        ensures { self.new ≡ with_part self.old part faulty }
+        ensures altered { result ≡ unlike (flag self.old part) faulty }
+        ensures map { self.new ≡ with_part self.old part faulty }
     {
         let (Part::Pe(i, j) | Part::RowSwitch(i, j) | Part::ColumnSwitch(i, j)) = part;
         let row = &mut self.rows[usize::from(i)];
@@ -37,7 +38,7 @@ impl Host {
     }
 
     /// Sets the PEs of a row from one character each: '.' is healthy, 'X' is faulty.
-    pub fn picture(&mut self, row: u8, text: &[u8]) -> Result<(), Refusal>
+    pub fn picture(&mut self, row: u8, text: &[u8]) -> Result<bool, Refusal>
         ensures answer { result ≡ answer self.old (picturing row text.now) }
         ensures map { self.new ≡ after self.old (picturing row text.now) }
     {
@@ -47,13 +48,17 @@ impl Host {
         if text.len() != usize::from(self.size.columns()) {
             return Err(Refusal::BadLength);
         }
-        self.rows[usize::from(row)].pes = crosses(text)?;
-        Ok(())
+        let pes = crosses(text)?;
+        let on_card = masks::below(self.size.columns());
+        let row = &mut self.rows[usize::from(row)];
+        let altered = masks::common(row.pes, on_card) != pes;
+        row.pes = pes;
+        Ok(altered)
     }
 
     /// Sets a row to 1, chosen, or 0, left out.
     // A number, as in `mark`.
-    pub fn choose(&mut self, row: u8, state: u8) -> Result<(), Refusal>
+    pub fn choose(&mut self, row: u8, state: u8) -> Result<bool, Refusal>
         ensures answer { result ≡ answer self.old (choosing row state) }
         ensures map { self.new ≡ after self.old (choosing row state) }
     {
@@ -61,8 +66,7 @@ impl Host {
             return Err(Refusal::Outside);
         }
         let chosen = to_bool(state)?;
-        self.choice = masks::with(self.choice, row, chosen);
-        Ok(())
+        Ok(put(&mut self.choice, row, chosen))
     }
 
     /// Sets the choice of all rows at once, for a caller that puts back what `chosen` told it.
@@ -73,11 +77,14 @@ impl Host {
     }
 }
 
-/// Sets a column's bit.
-fn put(bits: &mut u64, column: u8, on: bool)
-    ensures { bits.new ≡ put bits.old column on }
+/// Sets the bit of a row or column, and tells whether it was another.
+fn put(bits: &mut u64, i: u8, on: bool) -> bool
+    ensures altered { result ≡ unlike (bit bits.old i) on }
+    ensures bits { bits.new ≡ put bits.old i on }
 {
-    *bits = masks::with(*bits, column, on);
+    let altered = masks::has(*bits, i) != on;
+    *bits = masks::with(*bits, i, on);
+    altered
 }
 
 /// A state that has to be 0 or 1.

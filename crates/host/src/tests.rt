@@ -55,7 +55,7 @@ fn a_switch_joins_two_parts_of_the_card(rt: HostRuntime) -> Result<(), Fail> {
 #[test]
 fn a_faulty_column_switch_spoils_the_pes_at_both_its_ends(rt: HostRuntime) -> Result<(), Fail> {
     let mut host = card(3, 3)?;
-    assert_eq!(rt; host.mark(Part::ColumnSwitch(0, 1), 1), Ok(()));
+    assert_eq!(rt; host.mark(Part::ColumnSwitch(0, 1), 1), Ok(true));
     assert_eq!(rt;
         (host.usable_in(0), host.usable_in(1), host.usable_in(2)),
         (0b101, 0b101, 0b111)
@@ -63,7 +63,7 @@ fn a_faulty_column_switch_spoils_the_pes_at_both_its_ends(rt: HostRuntime) -> Re
     assert!(rt; !host.is_usable(0, 1));
     assert!(rt; host.is_usable(2, 1));
     assert!(rt; !host.is_usable(3, 1));
-    assert_eq!(rt; host.mark(Part::ColumnSwitch(0, 1), 0), Ok(()));
+    assert_eq!(rt; host.mark(Part::ColumnSwitch(0, 1), 0), Ok(true));
     assert_eq!(rt; host.usable_in(0), 0b111);
     Ok(())
 }
@@ -71,8 +71,8 @@ fn a_faulty_column_switch_spoils_the_pes_at_both_its_ends(rt: HostRuntime) -> Re
 #[test]
 fn the_leftmost_usable_pe_is_found_from_a_picture(rt: HostRuntime) -> Result<(), Fail> {
     let mut host = card(2, 4)?;
-    assert_eq!(rt; host.picture(0, b"XX.X"), Ok(()));
-    assert_eq!(rt; host.picture(1, b"XXXX"), Ok(()));
+    assert_eq!(rt; host.picture(0, b"XX.X"), Ok(true));
+    assert_eq!(rt; host.picture(1, b"XXXX"), Ok(true));
     assert_eq!(rt; host.leftmost_usable(0), Some(2));
     assert_eq!(rt; host.leftmost_usable(1), None);
     assert_eq!(rt; host.leftmost_usable(2), None);
@@ -80,16 +80,30 @@ fn the_leftmost_usable_pe_is_found_from_a_picture(rt: HostRuntime) -> Result<(),
 }
 
 #[test]
+fn a_call_tells_whether_it_altered_a_state(rt: HostRuntime) -> Result<(), Fail> {
+    let mut host = card(2, 3)?;
+    assert_eq!(rt; host.mark(Part::Pe(0, 1), 0), Ok(false));
+    assert_eq!(rt; host.mark(Part::Pe(0, 1), 1), Ok(true));
+    assert_eq!(rt; host.picture(0, b".X."), Ok(false));
+    assert_eq!(rt; host.picture(0, b"XX."), Ok(true));
+    assert_eq!(rt; host.picture(1, b".X."), Ok(true));
+    assert_eq!(rt; host.choose(1, 1), Ok(false));
+    assert_eq!(rt; host.choose(1, 0), Ok(true));
+    assert_eq!(rt; host.choose(1, 0), Ok(false));
+    Ok(())
+}
+
+#[test]
 fn a_row_stands_if_it_is_chosen_and_whole(rt: HostRuntime) -> Result<(), Fail> {
     let mut host = card(64, 64)?;
     assert_eq!(rt; host.standing(), u64::MAX);
-    assert_eq!(rt; host.mark(Part::RowSwitch(1, 62), 1), Ok(()));
-    assert_eq!(rt; host.choose(63, 0), Ok(()));
+    assert_eq!(rt; host.mark(Part::RowSwitch(1, 62), 1), Ok(true));
+    assert_eq!(rt; host.choose(63, 0), Ok(true));
     assert!(rt; !host.is_standing(1));
     assert!(rt; !host.is_standing(63));
     assert!(rt; !host.is_standing(64));
     assert_eq!(rt; host.standing_count(), 62);
-    assert_eq!(rt; host.choose(63, 1), Ok(()));
+    assert_eq!(rt; host.choose(63, 1), Ok(true));
     assert_eq!(rt; host.standing(), u64::MAX - 2);
     Ok(())
 }
