@@ -2,3 +2,4 @@ mod Totals
 mod Finds
 mod Trials
 mod Lefts
+mod Rowless

@@ -7,9 +7,9 @@ use Rattle.host.specs.Refusals.{refuse, answered, unless}
 use Rattle.host.specs.Changes.{choosing, after}
 use Rattle.tariff.specs.Meaning.{Meaning}
 use Rattle.plans.specs.Columns.{standing}
-use Rattle.plans.specs.Families.{total_charge}
 use Rattle.greedy.specs.Laws.{greedy_on}
 use Rattle.greedy.specs.Answers.{one_after_another, at_front}
+use Rattle.book.specs.Books.{counts}
 use Rattle.book.specs.declared.refusal.Refusal.{Refusal}
 use Rattle.book.specs.declared.refusal.Refusal.TheVariants.{Card, NoRow, ShortBuffer}
 use Rattle.routable.specs.Cards.{card_of}
@@ -23,10 +23,6 @@ by_card (Err x) = Err (Card x)
 abbrev pub found : Host → List (List ℕ)
 found h = (greedy_on (card_of h)).columns
 
--- their number and total charge
-abbrev pub counts : Host → Meaning → ℕ × ℕ
-counts h m = (length (found h), total_charge (card_of h) m (found h))
-
 abbrev pub rowless : Host → Bool
 rowless h = standing (card_of h) == 0
 
@@ -35,7 +31,7 @@ abbrev pub greedy_refusal : Host → ℕ → Option Refusal
 greedy_refusal h room = refuse (rowless h) NoRow (refuse (nat_lt room (h.size.columns * standing (card_of h))) ShortBuffer None)
 
 abbrev pub greedy_answer : Host → Meaning → ℕ → Result (ℕ × ℕ) Refusal
-greedy_answer h m room = answered (greedy_refusal h room) (counts h m)
+greedy_answer h m room = answered (greedy_refusal h room) (counts h m (found h))
 
 -- the columns one after another, with what was behind them; refused, all as it was
 abbrev pub greedy_buffer : Host → List ℕ → List ℕ
@@ -50,4 +46,4 @@ abbrev pub trial_refusal : Host → ℕ → Option Refusal
 trial_refusal h row = refuse (not (nat_lt row h.size.rows)) (Card Outside) (refuse (rowless (left_out h row)) NoRow None)
 
 abbrev pub trial_answer : Host → Meaning → ℕ → Result (ℕ × ℕ) Refusal
-trial_answer h m row = answered (trial_refusal h row) (counts (left_out h row) m)
+trial_answer h m row = answered (trial_refusal h row) (counts (left_out h row) m (found (left_out h row)))

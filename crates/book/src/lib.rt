@@ -1,9 +1,9 @@
-//! The book of a card: its map and its tariff, and the calls on them.
+//! The book of a card: its map, its tariff and the plan that it holds, and the calls on them.
 #![tactic(auto)]
 
-ghost use Rattle.std.specs.Prelude.{◌≡◌};
-ghost use Rattle.host.specs.Changes.{opened, marking, picturing, choosing, answer, after};
-ghost use Rattle.book.specs.Books.{with_map};
+ghost use Rattle.std.specs.Prelude.{◌≡◌, if◌then◌else◌};
+ghost use Rattle.host.specs.Changes.{marking, picturing, choosing, answer};
+ghost use Rattle.book.specs.Books.{opened_book, changed};
 ghost use Rattle.book.specs.Calls.{by_card};
 ghost use Rattle.book.specs.Laws.{Laws};
 
@@ -11,6 +11,7 @@ use crate::refusal::Refusal;
 use host::Host;
 use host::part::Part;
 use host::size::Size;
+use plans::held::HeldPlan;
 use tariff::Tariff;
 
 mod charges;
@@ -20,22 +21,27 @@ pub mod refusal;
 mod tests;
 mod trial;
 
-/// A card's map, and the tariff that its columns are charged by. No call changes the tariff.
+/// A card's map, the tariff that its columns are charged by, and one plan or none. No call changes the tariff.
 #[derive(Drop)]
 pub struct Book<T> {
     host: Host,
     tariff: T,
+    /// the number of columns and the total charge of the plan that is held
+    counts: Option<(u32, u32)>,
+    /// its columns and tolls; what is here counts for nothing where no plan is held
+    plan: HeldPlan,
 }
 
 impl<T: Tariff> Book<T> {
-    /// A book of a card on which all is healthy and every row is chosen.
+    /// A book of a card on which all is healthy and every row is chosen. It holds no plan.
     pub fn open(size: Size, tariff: T) -> Book<T>
-        ensures map { result.host ≡ opened size }
-        ensures tariff { result.tariff ≡ tariff }
+        ensures { result ≡ opened_book size tariff }
     {
         Book {
             host: Host::open(size),
             tariff,
+            counts: None,
+            plan: HeldPlan::empty(),
         }
     }
 
@@ -43,18 +49,20 @@ impl<T: Tariff> Book<T> {
     // A number, since the call itself refuses any other.
     pub fn mark(&mut self, part: Part, state: u8) -> Result<(), Refusal>
         ensures answer { result ≡ by_card (answer self.old.host (marking part state)) }
-        ensures book { self.new ≡ with_map self.old (after self.old.host (marking part state)) }
+        ensures book { self.new ≡ changed self.old (marking part state) }
     {
-        self.host.mark(part, state)?;
+        let altered = self.host.mark(part, state)?;
+        self.forget_plan_if(altered);
         Ok(())
     }
 
     /// Sets the PEs of a row from one character each: '.' is healthy, 'X' is faulty.
     pub fn picture(&mut self, row: u8, text: &[u8]) -> Result<(), Refusal>
         ensures answer { result ≡ by_card (answer self.old.host (picturing row text.now)) }
-        ensures book { self.new ≡ with_map self.old (after self.old.host (picturing row text.now)) }
+        ensures book { self.new ≡ changed self.old (picturing row text.now) }
     {
-        self.host.picture(row, text)?;
+        let altered = self.host.picture(row, text)?;
+        self.forget_plan_if(altered);
         Ok(())
     }
 
@@ -62,10 +70,20 @@ impl<T: Tariff> Book<T> {
     // A number, as in `mark`.
     pub fn choose(&mut self, row: u8, state: u8) -> Result<(), Refusal>
         ensures answer { result ≡ by_card (answer self.old.host (choosing row state)) }
-        ensures book { self.new ≡ with_map self.old (after self.old.host (choosing row state)) }
+        ensures book { self.new ≡ changed self.old (choosing row state) }
     {
-        self.host.choose(row, state)?;
+        let altered = self.host.choose(row, state)?;
+        self.forget_plan_if(altered);
         Ok(())
+    }
+
+    /// No plan outlives the state of the card that it was made for.
+    fn forget_plan_if(&mut self, altered: bool)
+        ensures { self.new ≡ record self.old { counts = if altered then None else self.old.counts } }
+    {
+        if altered {
+            self.counts = None;
+        }
     }
 }
 

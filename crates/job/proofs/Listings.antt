@@ -1,5 +1,5 @@
 -- Listings of lists of entries, and of records as they are written. Assumes nothing.
-use Rattle.std.proofs.Common.{◌≡◌, ℕ, ◌+◌, ◌≤◌, take, ltb, List, [], ◌∷◌, ◌++◌, map, length, drop, Some, None, Ok, Err, Option, Result, sym, refl, ap, ◌∙◌, ap₂, append_assoc, append-nil, arith}
+use Rattle.std.proofs.Common.{Bool, ◌≡◌, ℕ, ◌+◌, ◌≤◌, take, ltb, List, [], ◌∷◌, ◌++◌, map, length, drop, Some, None, Ok, Err, Option, Result, sym, refl, ap, ◌∙◌, ap₂, append_assoc, append-nil, arith}
 use Rattle.std.proofs.lemmas.Bool.{cond-false, cond_both, le-ltb, ltb-false}
 use Rattle.std.proofs.lemmas.Grind.{flat_map-append}
 use Rattle.std.specs.List.{flat_map}
@@ -85,13 +85,13 @@ size_kept : (before : Option Host) (t : Result CardSize CardRefusal) (x : Refusa
 size_kept before (Ok z) x e = cc
 size_kept before (Err y) x e = refl
 
-change_kept : (o : Option CardRefusal) (h d : Host) (x : Refusal) → done (by_card (answered o tt)) ≡ Err x → unless o h d ≡ h
-change_kept None h d x e = cc
-change_kept (Some y) h d x e = refl
+change_kept : (o : Option CardRefusal) (altered : Bool) (h d : Host) (x : Refusal) → done (by_card (answered o altered)) ≡ Err x → unless o h d ≡ h
+change_kept None altered h d x e = cc
+change_kept (Some y) altered h d x e = refl
 
 call_kept : (h : Host) (c : Call) (x : Refusal) → answered_by h c ≡ Err x → map_after h c ≡ h
-call_kept h (Mark p s) x e = change_kept (refusal h.size (marking p s)) h (set_by h (marking p s)) x e
-call_kept h (Choose i s) x e = change_kept (refusal h.size (choosing i s)) h (set_by h (choosing i s)) x e
+call_kept h (Mark p s) x e = change_kept (refusal h.size (marking p s)) _ h (set_by h (marking p s)) x e
+call_kept h (Choose i s) x e = change_kept (refusal h.size (choosing i s)) _ h (set_by h (choosing i s)) x e
 call_kept h Greedy x e = refl
 
 -- what is refused keeps the map
