@@ -17,19 +17,18 @@ use Rattle.verdict.proofs.Complete.{complete}
 use Rattle.verdict.proofs.Records.{records_legal, records_fit, same_columns}
 use Rattle.verdict.proofs.Sound.{sound_plan}
 use Rattle.verdict.proofs.TollLists.{list_listed}
-use Rattle.verdict.proofs.Written.{written-bytes}
 
 pub is_plan : AcceptedIsPlan
 is_plan h m bs a stands u = (
-  λ e. let s = sound_plan h m bs a stands u e in record { toll = toll_of a.tolls; plan = s.plan; ordered = s.ordered; listed = s.listed; written = s.written },
+  λ e. let s = sound_plan h m bs a stands e in record { toll = toll_of a.tolls; plan = s.plan; ordered = s.ordered; listed = s.listed; written = s.written u },
   λ s. ap (judged h m) s.written ∙ complete h m s.toll a.columns s.plan s.ordered ∙ (λ i. Ok (record { columns = a.columns; tolls = sym s.listed i })),
 )
 
 pub again : AcceptedAgain
-again h m bs a stands u e = sym (sound_plan h m bs a stands u e).written
+again h m bs a stands u e = sym ((sound_plan h m bs a stands e).written u)
 
 pub best : AcceptedBest
-best h m bs a stands lawful u e = (Crossings.best (card_of h) m (toll_of a.tolls) a.columns (within h) lawful (sound_plan h m bs a stands u e).plan).0
+best h m bs a stands lawful e = (Crossings.best (card_of h) m (toll_of a.tolls) a.columns (within h) lawful (sound_plan h m bs a stands e).plan).0
 
 pub is_run : PlanIsRun
 is_run h m toll f plan = (
@@ -61,7 +60,7 @@ of_best h m toll f g lawful allowed fam sup gam firsts =
     let fit = records_fit h g ts gam.each listed.each in
     let legal = records_legal h g ts gam.each in (
       λ a.
-          let s = sound_plan h m (sheet_of h g toll) a.0 fam.stands (written-bytes (records h g ts) fit) a.1 in
+          let s = sound_plan h m (sheet_of h g toll) a.0 fam.stands a.1 in
           let both = sym (reads_from (records h g ts) Opening 0 Ended fit legal) ∙ s.reads in
           let there = records_legal h a.0.columns a.0.tolls s.plan.family.each in
           let same : g ≡ a.0.columns =

@@ -116,10 +116,10 @@ pub record Sound (h : Host) (m : Meaning) (bs : List ℕ) (a : Accepted) : Type 
   pub ordered : LeftToRight a.columns
   pub listed : a.tolls ≡ toll_list h (toll_of a.tolls)
   pub reads : reading bs ≡ placed 0 (records h a.columns a.tolls)
-  pub written : bs ≡ sheet_of h a.columns (toll_of a.tolls)
+  pub written : Bytes bs → bs ≡ sheet_of h a.columns (toll_of a.tolls)
 
-pub sound_plan : (h : Host) (m : Meaning) (bs : List ℕ) (a : Accepted) → 0 < standing (card_of h) → Bytes bs → judged h m bs ≡ Ok a → Sound h m bs a
-sound_plan h m bs a stands u e =
+pub sound_plan : (h : Host) (m : Meaning) (bs : List ℕ) (a : Accepted) → 0 < standing (card_of h) → judged h m bs ≡ Ok a → Sound h m bs a
+sound_plan h m bs a stands e =
     let c = card_of h in
     let p = passed h m bs a e in
     let g = p.final in
@@ -129,7 +129,6 @@ sound_plan h m bs a stands u e =
     let again : g.tolls ≡ toll_list h toll = listed_again c (ascending h) (narrow h) g.tolls v.listed in
     let up = eqb-true (total (λ t. t.amount) g.tolls + total_charge c m g.columns) (worth * length g.columns) p.sum in
     let sum : total (λ t. t.amount) g.tolls ≡ tolls_on c.rows toll = ap (total (λ (t : Toll). t.amount)) again ∙ down_sum toll c.rows in
-    let lost : bs ≡ all_bytes w.xs = lost_from w.xs Opening 0 bs Ended u w.legal w.is in
     let are : w.xs ≡ records h g.columns g.tolls = w.says ∙ said_all h g w.full in
     subst (Sound h m bs) p.is (record {
       plan = record {
@@ -141,5 +140,5 @@ sound_plan h m bs a stands u e =
       ordered = v.ordered;
       listed = again;
       reads = w.is ∙ ap (placed 0) are;
-      written = lost ∙ ap all_bytes are ∙ ap (λ (ts : List Toll). all_bytes (records h g.columns ts)) again;
+      written = λ u. lost_from w.xs Opening 0 bs Ended u w.legal w.is ∙ ap all_bytes are ∙ ap (λ (ts : List Toll). all_bytes (records h g.columns ts)) again;
     })

@@ -48,8 +48,7 @@ AcceptedAgain =
 -- only a best family is accepted
 abbrev pub AcceptedBest : Type 0
 AcceptedBest =
-    (h : Host) (m : Meaning) (bs : List ℕ) (a : Accepted) → 0 < standing (card_of h) → Lawful m → Bytes bs →
-    judged h m bs ≡ Ok a → Best (card_of h) m a.columns
+    (h : Host) (m : Meaning) (bs : List ℕ) (a : Accepted) → 0 < standing (card_of h) → Lawful m → judged h m bs ≡ Ok a → Best (card_of h) m a.columns
 
 -- with tolls that support some family, the sheet of a family is accepted exactly when the family is best
 abbrev pub SheetsOfBest : Type 0
