@@ -3,3 +3,4 @@ mod Finds
 mod Trials
 mod Lefts
 mod Rowless
+pub mod Lengths

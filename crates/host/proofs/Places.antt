@@ -38,7 +38,7 @@ pub kept_by : (h : Host) (c : Change) (x : Refusal) → refusal h.size c ≡ Som
 kept_by h c x e = ap (λ o. unless o h (set_by h c)) e
 
 -- a call is done or refused
-pub way : (o : Option Refusal) → (o ≡ None) ⊎ ((x : Refusal) × (o ≡ Some x))
+pub way : {X : Type 0} (o : Option X) → (o ≡ None) ⊎ ((x : X) × (o ≡ Some x))
 way None = inl refl
 way (Some x) = inr (x, refl)
 
@@ -64,7 +64,7 @@ marked h w (ColumnSwitch i j) (RowSwitch k l) b named here = kept h w i _ (λ ro
 marked h w (ColumnSwitch i j) (ColumnSwitch k l) b named here =
     put_in h w i _ (λ row. row.down) k l _ j b refl (omega (arith, (limits h.size _ _ named).0)) (limits h.size _ _ here).1 here
 
-pub passed : (test : Bool) (x : Refusal) (later : Option Refusal) → refuse test x later ≡ None → (test ≡ false) × (later ≡ None)
+pub passed : {X : Type 0} (test : Bool) (x : X) (later : Option X) → refuse test x later ≡ None → (test ≡ false) × (later ≡ None)
 passed true x later e = absurd (cc)
 passed false x later e = (refl, e)
 

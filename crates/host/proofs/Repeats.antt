@@ -26,7 +26,7 @@ set_later h (choosing i s) (choosing k t) e =
 set_later h _ _ e = absurd e
 
 -- no call changes the size of the card
-set_size : (h : Host) (c : Change) → (set_by h c).size ≡ h.size
+pub set_size : (h : Host) (c : Change) → (set_by h c).size ≡ h.size
 set_size h (marking (Pe i j) s) = refl
 set_size h _ = refl
 

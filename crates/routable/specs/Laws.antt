@@ -1,8 +1,10 @@
 -- Laws of a map as routing sees it. Assumes nothing.
-use Rattle.std.specs.Prelude.{◌≡◌}
+use Rattle.std.specs.Prelude.{◌≡◌, false}
 use Rattle.masks.specs.Masks.{how_many}
 use Rattle.host.specs.declared.Host.{Host}
 use Rattle.host.specs.Maps.{stands}
+use Rattle.host.specs.Changes.{Change, after, alters}
+use Rattle.host.specs.Laws.{Whole}
 use Rattle.plans.specs.Columns.{Within, standing}
 use Rattle.routable.specs.Cards.{card_of}
 
@@ -11,3 +13,5 @@ pub record Laws : Type 0 where
   pub rows : (h : Host) → standing (card_of h) ≡ how_many (stands h)
   -- a map is a card within the limits, so every law of plans holds of it
   pub within : (h : Host) → Within (card_of h)
+  -- a call that alters no state leaves the same card
+  pub unaltered : (h : Host) (c : Change) → Whole h → alters h c ≡ false → card_of (after h c) ≡ card_of h

@@ -1,6 +1,7 @@
 use Rattle.greedy.proofs.Cards.{family, left_to_right}
 use Rattle.routable.specs.Cards.{card_of}
 use Rattle.book.proofs.Lefts.{trial_rows}
+use Rattle.book.proofs.Lengths.{length-greedy_buffer}
 use Rattle.book.proofs.Rowless.{rowless_when}
 use Rattle.book.proofs.Trials.{room_for_any}
 use Rattle.book.proofs.laws.Goals as goal
@@ -10,6 +11,7 @@ returns c = record {
   family = λ h. family (card_of h);
   left_to_right = λ h. left_to_right (card_of h);
   rowless_when = rowless_when;
+  buffer_length = length-greedy_buffer;
   room = room_for_any;
   trial_rows = trial_rows;
 }

@@ -1,0 +1,7 @@
+mod Lasts
+mod Maps
+mod Plans
+mod Buffers
+mod Steps
+mod LastPlans
+mod Keeping
