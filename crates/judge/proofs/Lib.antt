@@ -1,4 +1,5 @@
-mod Rows
 mod Cells
 mod Lasts
+mod Limits
+mod Charges
 mod Faults

@@ -1,0 +1,42 @@
+-- What the code holds of a sheet while it is read. Assumes nothing.
+use Rattle.std.specs.Prelude.{◌≡◌, ℕ, List, [], ◌∷◌, ◌++◌, length, Some, None, Ok, Err, Option, Result}
+use Rattle.host.specs.declared.Host.{Host}
+use Rattle.tariff.specs.declared.pe.Pe.{Pe}
+use Rattle.tariff.specs.Meaning.{Meaning}
+use Rattle.plans.specs.Columns.{Card, row}
+use Rattle.plans.specs.Families.{total_charge}
+use Rattle.plans.specs.Held.{at_each, held_row}
+use Rattle.plans.specs.Least.{last}
+use Rattle.routable.specs.Cards.{card_of}
+use Rattle.verdict.specs.Judging.{Gathered}
+use Rattle.verdict.proofs.Advancing.{Valid}
+use Rattle.judge.specs.declared.columns.GatheredColumns.{GatheredColumns}
+
+-- the full columns, and behind them the one that has begun
+abbrev pub so_far : Gathered → List (List ℕ)
+so_far g = g.columns ++ g.column ∷ []
+
+-- the last PE of a column that has begun, if it has any
+abbrev pub last_pe : Card → List ℕ → Option Pe
+last_pe c [] = None
+last_pe c (j ∷ js) = Some (record { row = row c (length js); column = last (j ∷ js) })
+
+-- the columns as the code holds them
+abbrev pub columns_of : Host → Meaning → Gathered → GatheredColumns
+columns_of h m g = record {
+  rows = at_each (held_row (so_far g));
+  full = length g.columns;
+  place = length g.column;
+  above = last_pe (card_of h) g.column;
+  charge = total_charge (card_of h) m (so_far g);
+}
+
+-- sound columns, held by the code
+pub record HoldsColumns (h : Host) (m : Meaning) (s : GatheredColumns) (g : Gathered) : Type 0 where
+  pub valid : Valid h g
+  pub is : s ≡ columns_of h m g
+
+-- code answers as a definition does; where that gives something, f of it is answered and P holds of it
+abbrev pub AnswersAs : {A B X : Type 0} → (B → A) → (B → Type 0) → Result A X → Result B X → Type 0
+AnswersAs f P r (Err x) = r ≡ Err x
+AnswersAs f P r (Ok b) = (r ≡ Ok (f b)) × P b
