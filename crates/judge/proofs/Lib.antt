@@ -3,3 +3,5 @@ mod Lasts
 mod Limits
 mod Charges
 mod Faults
+mod Answers
+mod Puts

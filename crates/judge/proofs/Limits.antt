@@ -9,17 +9,19 @@ use Rattle.host.specs.Maps.{stands}
 use Rattle.tariff.specs.Charges.{charge}
 use Rattle.tariff.specs.Meaning.{Meaning, Lawful}
 use Rattle.tariff.proofs.Charges.{charge_limit}
-use Rattle.plans.specs.Columns.{Card, Column, standing}
+use Rattle.plans.specs.Columns.{Card, Column, standing, row}
 use Rattle.plans.specs.Families.{LeftOf, Apart, Pairwise, total_charge}
 use Rattle.plans.proofs.ByRows.{few_columns}
 use Rattle.plans.proofs.Places as Places
 use Rattle.plans.proofs.Sums.{total_under}
+use Rattle.plans.specs.Least.{last}
 use Rattle.routable.specs.Cards.{card_of}
 use Rattle.routable.proofs.Cards.{within}
 use Rattle.verdict.specs.Judging.{Gathered, right_of_last}
 use Rattle.verdict.proofs.Advancing.{Valid}
+use Rattle.verdict.proofs.Hosts.{narrow}
 use Rattle.verdict.proofs.Lists.{After, after_true, all_from_in}
-use Rattle.verdict.proofs.Placing.{RightIn, left_apart}
+use Rattle.verdict.proofs.Placing.{RightIn, left_apart, last_at}
 use Rattle.judge.specs.Gathering.{so_far}
 
 pub few_standing : (h : Host) → standing (card_of h) ≤ 64
@@ -49,6 +51,14 @@ module _ (h : Host) (g : Gathered) (valid : Valid h g) where
       go : (f : List (List ℕ)) → AllByRecursion (Column (card_of h)) f → Pairwise LeftOf f → After (RightIn p) f j → length f < 64
       go [] cs w r = omega arith
       go (a ∷ f) cs w r = omega (arith, climbs (card_of h) p j l a f 0 cs w (omega arith) r)
+
+  -- the last PE of a column is on the card
+  pub low_last : last g.column < 64
+  low_last = go g.column (λ s l. narrow h (row (card_of h) s) (get_or g.column s 0) (valid.part.usable s l))
+    where
+      go : (a : List ℕ) → ((s : ℕ) → s < length a → get_or a s 0 < 64) → last a < 64
+      go [] low = omega arith
+      go (j ∷ js) low = omega (arith, last_at (j ∷ js) (length js) (omega arith), low (length js) (omega arith))
 
   -- no more than 1,000 for each PE is charged
   pub small_charge : (m : Meaning) → Lawful m → total_charge (card_of h) m (so_far g) ≤ 4160000

@@ -21,6 +21,11 @@ abbrev pub last_pe : Card → List ℕ → Option Pe
 last_pe c [] = None
 last_pe c (j ∷ js) = Some (record { row = row c (length js); column = last (j ∷ js) })
 
+-- what a PE is charged below the last one of its column
+abbrev pub charge_below : Meaning → Option Pe → Pe → ℕ
+charge_below m None pe = m.entry pe.row pe.column
+charge_below m (Some upper) pe = m.link upper.row upper.column pe.row pe.column
+
 -- the columns as the code holds them
 abbrev pub columns_of : Host → Meaning → Gathered → GatheredColumns
 columns_of h m g = record {

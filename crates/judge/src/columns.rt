@@ -7,7 +7,7 @@ ghost use Rattle.routable.specs.Cards.{card_of};
 ghost use Rattle.host.specs.Refusals.{answered};
 ghost use Rattle.verdict.specs.Judging.{Gathered, blank, stepped, pe_fault, pe_checked, step_checked};
 ghost use Rattle.plans.specs.Least.{last};
-ghost use Rattle.judge.specs.Gathering.{columns_of, HoldsColumns, AnswersAs};
+ghost use Rattle.judge.specs.Gathering.{charge_below, columns_of, HoldsColumns, AnswersAs};
 
 use crate::chart::Chart;
 use plans::held::HeldRow;
@@ -40,6 +40,16 @@ fn stepped(step: Step, column: u8) -> Option<u8>
         Step::Left => column.checked_sub(1),
         Step::Straight => Some(column),
         Step::Right => Some(column + 1),
+    }
+}
+
+/// What a PE is charged below the last one of its column.
+fn charge_below<T: Tariff>(tariff: &T, above: Option<Pe>, pe: Pe) -> u32
+    ensures { result ≡ charge_below (T.meaning tariff.now) above pe }
+{
+    match above {
+        None => tariff.entry(pe),
+        Some(upper) => tariff.link(upper, pe),
     }
 }
 
@@ -84,10 +94,7 @@ impl GatheredColumns {
         ensures { (g : Gathered) → HoldsColumns chart.now.host.now (T.meaning tariff.now) self.old g → AnswersAs (λ g'. tt) (λ g'. self.new ≡ columns_of chart.now.host.now (T.meaning tariff.now) g') result (pe_checked chart.now.host.now g column) }
     {
         let pe = self.next_pe(chart, column)?;
-        self.charge += match self.above {
-            None => tariff.entry(pe),
-            Some(upper) => tariff.link(upper, pe),
-        };
+        self.charge += charge_below(tariff, self.above, pe);
         self.rows[self.place].columns[self.full] = column;
         self.place += 1;
         self.above = Some(pe);
