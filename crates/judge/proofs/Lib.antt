@@ -5,3 +5,4 @@ mod Charges
 mod Faults
 mod Answers
 mod Puts
+mod TollTables

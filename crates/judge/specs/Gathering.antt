@@ -1,16 +1,18 @@
 -- What the code holds of a sheet while it is read. Assumes nothing.
-use Rattle.std.specs.Prelude.{◌≡◌, ℕ, List, [], ◌∷◌, ◌++◌, length, Some, None, Ok, Err, Option, Result}
+use Rattle.std.specs.Prelude.{◌≡◌, ℕ, Bool, true, List, [], ◌∷◌, ◌++◌, length, Some, None, Ok, Err, Option, Result}
 use Rattle.host.specs.declared.Host.{Host}
 use Rattle.tariff.specs.declared.pe.Pe.{Pe}
 use Rattle.tariff.specs.Meaning.{Meaning}
 use Rattle.plans.specs.Columns.{Card, row}
-use Rattle.plans.specs.Families.{total_charge}
+use Rattle.plans.specs.Families.{total, total_charge}
 use Rattle.plans.specs.Held.{at_each, held_row}
 use Rattle.plans.specs.Least.{last}
 use Rattle.routable.specs.Cards.{card_of}
-use Rattle.verdict.specs.Judging.{Gathered}
+use Rattle.sheet.specs.declared.record.Toll.{Toll}
+use Rattle.verdict.specs.Judging.{Gathered, before, toll_of}
 use Rattle.verdict.proofs.Advancing.{Valid}
 use Rattle.judge.specs.declared.columns.GatheredColumns.{GatheredColumns}
+use Rattle.judge.specs.declared.tolls.GatheredTolls.{GatheredTolls}
 
 -- the full columns, and behind them the one that has begun
 abbrev pub so_far : Gathered → List (List ℕ)
@@ -20,6 +22,17 @@ so_far g = g.columns ++ g.column ∷ []
 abbrev pub last_pe : Card → List ℕ → Option Pe
 last_pe c [] = None
 last_pe c (j ∷ js) = Some (record { row = row c (length js); column = last (j ∷ js) })
+
+-- the last of a list, if it has any
+abbrev pub last_of : {X : Type 0} → List X → Option X
+last_of [] = None
+last_of (x ∷ []) = Some x
+last_of (x ∷ y ∷ ys) = last_of (y ∷ ys)
+
+-- a toll comes after the last one, if there is any
+abbrev pub after_last : Option Toll → Toll → Bool
+after_last None t = true
+after_last (Some d) t = before d t
 
 -- what a PE is charged below the last one of its column
 abbrev pub charge_below : Meaning → Option Pe → Pe → ℕ
@@ -36,10 +49,22 @@ columns_of h m g = record {
   charge = total_charge (card_of h) m (so_far g);
 }
 
--- sound columns, held by the code
+-- the tolls as the code holds them
+abbrev pub tolls_of : List Toll → GatheredTolls
+tolls_of ts = record {
+  amounts = at_each (λ r. at_each (toll_of ts r));
+  last = last_of ts;
+  sum = total (λ t. t.amount) ts;
+}
+
+-- what is gathered is sound, and the code has its columns, its tolls
 pub record HoldsColumns (h : Host) (m : Meaning) (s : GatheredColumns) (g : Gathered) : Type 0 where
   pub valid : Valid h g
   pub is : s ≡ columns_of h m g
+
+pub record HoldsTolls (h : Host) (s : GatheredTolls) (g : Gathered) : Type 0 where
+  pub valid : Valid h g
+  pub is : s ≡ tolls_of g.tolls
 
 -- code answers as a definition does; where that gives something, f of it is answered and P holds of it
 abbrev pub AnswersAs : {A B X : Type 0} → (B → A) → (B → Type 0) → Result A X → Result B X → Type 0
