@@ -18,3 +18,16 @@ refused_so (Some y) a b x e = let same : x ≡ y = cc in ap Err (sym same)
 pub allowed_so : {A X : Type 0} (o : Option X) (a x : A) → ◌≡◌ {A = Result A X} (Ok x) (answered o a) → (o ≡ None) × (x ≡ a)
 allowed_so None a x e = (refl, cc)
 allowed_so (Some y) a x e = absurd (cc)
+
+-- what holds of what is given, where it was given so
+pub answers_more : {A B X : Type 0} (f : B → A) (P Q : B → Type 0) (r : Result A X) (d : Result B X) →
+    ((b : B) → d ≡ Ok b → P b → Q b) → AnswersAs f P r d → AnswersAs f Q r d
+answers_more f P Q r (Err x) each a = a
+answers_more f P Q r (Ok b) each a = (a.0, each b refl a.1)
+
+pub given_so : {A X : Type 0} (o : Option X) (a b : A) → ◌≡◌ {A = Result A X} (answered o a) (Ok b) → a ≡ b
+given_so None a b e = cc
+given_so (Some y) a b e = absurd (cc)
+
+pub answers_as : {A B X : Type 0} (f : B → A) (P : B → Type 0) (r : Result A X) (d d' : Result B X) → d ≡ d' → AnswersAs f P r d' → AnswersAs f P r d
+answers_as f P r d d' e a = subst (AnswersAs f P r) (sym e) a

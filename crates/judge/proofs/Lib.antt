@@ -6,3 +6,4 @@ mod Faults
 mod Answers
 mod Puts
 mod TollTables
+mod Parts

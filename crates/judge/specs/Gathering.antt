@@ -8,10 +8,16 @@ use Rattle.plans.specs.Families.{total, total_charge}
 use Rattle.plans.specs.Held.{at_each, held_row}
 use Rattle.plans.specs.Least.{last}
 use Rattle.routable.specs.Cards.{card_of}
+use Rattle.sheet.specs.declared.fault.SheetFault.{SheetFault}
+use Rattle.sheet.specs.declared.record.Record.{Record}
 use Rattle.sheet.specs.declared.record.Toll.{Toll}
-use Rattle.verdict.specs.Judging.{Gathered, before, toll_of}
+use Rattle.sheet.specs.declared.state.State.{State}
+use Rattle.verdict.specs.declared.fault.JudgeFault.{JudgeFault}
+use Rattle.verdict.specs.declared.fault.JudgeFault.TheVariants.{Sheet}
+use Rattle.verdict.specs.Judging.{Gathered, before, toll_of, checked, at_place}
 use Rattle.verdict.proofs.Advancing.{Valid}
 use Rattle.judge.specs.declared.columns.GatheredColumns.{GatheredColumns}
+use Rattle.judge.specs.declared.gathering.Gathering.{Gathering}
 use Rattle.judge.specs.declared.tolls.GatheredTolls.{GatheredTolls}
 
 -- the full columns, and behind them the one that has begun
@@ -65,6 +71,22 @@ pub record HoldsColumns (h : Host) (m : Meaning) (s : GatheredColumns) (g : Gath
 pub record HoldsTolls (h : Host) (s : GatheredTolls) (g : Gathered) : Type 0 where
   pub valid : Valid h g
   pub is : s ≡ tolls_of g.tolls
+
+abbrev pub gathering_of : Host → Meaning → Gathered → Gathering
+gathering_of h m g = record { columns = columns_of h m g; tolls = tolls_of g.tolls }
+
+pub record Holds (h : Host) (m : Meaning) (s : Gathering) (g : Gathered) : Type 0 where
+  pub valid : Valid h g
+  pub is : s ≡ gathering_of h m g
+
+-- what comes of the next record of a sheet, found at a place
+abbrev pub with_next : Record → Result Gathered JudgeFault → Result (Record × Gathered) JudgeFault
+with_next x (Err y) = Err y
+with_next x (Ok g) = Ok (x, g)
+
+abbrev pub next_gathered : Host → Gathered → ℕ → Result (Record × State) SheetFault → Result (Record × Gathered) JudgeFault
+next_gathered h g at (Err x) = Err (Sheet x)
+next_gathered h g at (Ok p) = with_next p.0 (at_place at (checked h g p.0))
 
 -- code answers as a definition does; where that gives something, f of it is answered and P holds of it
 abbrev pub AnswersAs : {A B X : Type 0} → (B → A) → (B → Type 0) → Result A X → Result B X → Type 0

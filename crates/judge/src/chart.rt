@@ -1,15 +1,19 @@
 //! A map, with what a judge asks of it at every record drawn out once.
-ghost use Rattle.std.specs.Prelude.{◌≡◌};
+ghost use Rattle.std.specs.Prelude.{◌≡◌, not};
 ghost use Rattle.masks.specs.Masks.{bit, mask};
 ghost use Rattle.masks.specs.Members.{members};
 ghost use Rattle.host.specs.Maps.{usable, stands};
+ghost use Rattle.host.specs.Refusals.{refuse, answered};
 ghost use Rattle.routable.specs.Cards.{card_of};
+ghost use Rattle.verdict.specs.Judging.{same_head};
 ghost use Rattle.judge.specs.Charts.{usable_table};
 
 use arrayvec::ArrayVec;
 use host::Host;
 use masks::iter::Members;
+use sheet::record::Head;
 use tariff::pe::Pe;
+use verdict::fault::CardFault;
 
 /// A map and its tables, which are looked up where the map would be asked.
 #[derive(Drop)]
@@ -36,6 +40,21 @@ impl Chart<'_> {
             standing,
             rows: listed(standing),
             usable: usable_by_row(host),
+        }
+    }
+
+    /// Whether a head is the map's.
+    pub fn check_head(&self, head: Head) -> Result<(), CardFault>
+        ensures { result ≡ answered (refuse (not (same_head self.now.host.now head)) CardFault.OtherCard None) tt }
+    {
+        let size = self.host.size();
+        if head.rows == size.rows()
+            && head.columns == size.columns()
+            && head.standing == self.standing
+        {
+            Ok(())
+        } else {
+            Err(CardFault::OtherCard)
         }
     }
 

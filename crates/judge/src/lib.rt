@@ -3,4 +3,5 @@
 
 mod chart;
 mod columns;
+mod gathering;
 mod tolls;
