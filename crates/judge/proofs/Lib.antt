@@ -7,3 +7,4 @@ mod Answers
 mod Puts
 mod TollTables
 mod Parts
+mod Nexts
