@@ -8,3 +8,4 @@ mod Puts
 mod TollTables
 mod Parts
 mod Nexts
+mod Readings

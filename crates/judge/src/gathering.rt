@@ -76,10 +76,12 @@ impl Gathering {
         let mut reader = Reader::new();
         loop {
             let at = reader.place();
-            match self.take_next(chart, tariff, &mut reader, sheet) {
-                Ok(Record::End) => break Ok(at),
-                Ok(_) => {}
+            let record = match self.take_next(chart, tariff, &mut reader, sheet) {
+                Ok(record) => record,
                 Err(fault) => break Err(fault),
+            };
+            if record == Record::End {
+                break Ok(at);
             }
         }
     }
