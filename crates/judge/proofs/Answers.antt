@@ -31,3 +31,14 @@ given_so (Some y) a b e = absurd (cc)
 
 pub answers_as : {A B X : Type 0} (f : B → A) (P : B → Type 0) (r : Result A X) (d d' : Result B X) → d ≡ d' → AnswersAs f P r d' → AnswersAs f P r d
 answers_as f P r d d' e a = subst (AnswersAs f P r) (sym e) a
+
+-- and what was given, where something was
+pub record Given {A B X : Type 0} (f : B → A) (P : B → Type 0) (a : A) (d : Result B X) : Type 0 where
+  pub what : B
+  pub is : d ≡ Ok what
+  pub told : a ≡ f what
+  pub holds : P what
+
+pub given : {A B X : Type 0} (f : B → A) (P : B → Type 0) (a : A) (d : Result B X) → AnswersAs f P (Ok a) d → Given f P a d
+given f P a (Err x) q = absurd (cc)
+given f P a (Ok b) q = record { what = b; is = refl; told = cc; holds = q.1 }

@@ -9,3 +9,5 @@ mod TollTables
 mod Parts
 mod Nexts
 mod Readings
+mod Settlings
+mod Judgings
