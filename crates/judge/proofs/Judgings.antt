@@ -1,5 +1,5 @@
 -- What is judged, by what the code has at its end. Assumes nothing.
-use Rattle.std.proofs.Common.{◌≡◌, ℕ, ◌^◌, ◌<◌, List, [], ◌∷◌, ◌++◌, length, Ok, Err, Result, sym, refl, ap, ◌∙◌, arith}
+use Rattle.std.proofs.Common.{◌≡◌, ℕ, ◌^◌, ◌<◌, List, [], ◌∷◌, ◌++◌, length, Ok, Err, sym, ap, ◌∙◌, arith}
 use Rattle.host.specs.declared.Host.{Host}
 use Rattle.host.specs.Refusals.{answered}
 use Rattle.tariff.specs.Meaning.{Meaning}

@@ -1,5 +1,5 @@
 -- What may follow the last of a list. Assumes nothing.
-use Rattle.std.proofs.Common.{◌≡◌, ℕ, zero, suc, ◌+◌, ◌-◌, ◌<◌, Bool, true, List, [], ◌∷◌, ◌++◌, length, get_or, Some, None, sym, refl, ap, ◌∙◌, arith}
+use Rattle.std.proofs.Common.{◌≡◌, ℕ, zero, suc, ◌+◌, Bool, true, List, [], ◌∷◌, ◌++◌, length, get_or, Some, sym, refl, ap, arith}
 use Rattle.sheet.specs.declared.record.Toll.{Toll}
 use Rattle.verdict.specs.Judging.{may_follow, before}
 use Rattle.judge.specs.Gathering.{last_of, after_last}

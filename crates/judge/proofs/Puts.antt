@@ -11,7 +11,6 @@ use Rattle.plans.specs.Columns.{Card, standing, row}
 use Rattle.plans.specs.Families.{total_charge}
 use Rattle.plans.specs.declared.held.HeldRow.{HeldRow}
 use Rattle.plans.specs.Held.{held_row, at_each, no_row}
-use Rattle.plans.specs.Least.{last}
 use Rattle.routable.specs.Cards.{card_of}
 use Rattle.verdict.specs.declared.fault.CardFault.{CardFault}
 use Rattle.verdict.specs.Judging.{Gathered, with_pe, right_of_last, pe_fault, pe_checked}

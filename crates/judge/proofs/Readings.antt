@@ -1,6 +1,6 @@
 -- The records of a sheet, taken in one after another. Assumes nothing.
-use Rattle.std.proofs.Common.{◌≡◌, ℕ, ◌+◌, ◌<◌, true, false, List, [], length, drop, Ok, Err, Result, sym, refl, ap, ◌∙◌, subst, inl, inr, ⊎_elim, arith}
-use Rattle.std.proofs.lemmas.Bool.{cases_Bool, cond-true, cond-false}
+use Rattle.std.proofs.Common.{◌≡◌, ℕ, ◌+◌, ◌<◌, false, List, [], length, drop, Ok, Err, sym, refl, ap, ◌∙◌, subst, inl, inr, ⊎_elim, arith}
+use Rattle.std.proofs.lemmas.Bool.{cases_Bool, cond-false}
 use Rattle.std.proofs.lemmas.List.{drop-drop}
 use Rattle.host.specs.declared.Host.{Host}
 use Rattle.tariff.specs.Meaning.{Meaning}
@@ -10,7 +10,7 @@ use Rattle.sheet.specs.declared.record.Record.{Record}
 use Rattle.sheet.specs.declared.record.Record.TheVariants as r
 use Rattle.sheet.specs.declared.state.State.{State}
 use Rattle.sheet.specs.Records.{size, is_end}
-use Rattle.sheet.specs.Readings.{new_reader, taken, reader_after, reading_from, reading, Reading, stops, ends, then}
+use Rattle.sheet.specs.Readings.{new_reader, taken, reader_after, reading_from, reading}
 use Rattle.sheet.proofs.Nexts.{took}
 use Rattle.sheet.proofs.Runs.{only_end}
 use Rattle.sheet.proofs.Readings.{fewer, reading_stops, reading_took}

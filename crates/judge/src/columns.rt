@@ -107,7 +107,12 @@ impl GatheredColumns {
     }
 
     /// Puts the next PE by a step from the last one.
-    pub fn step<T: Tariff>(&mut self, chart: &Chart, tariff: &T, step: Step) -> Result<(), CardFault>
+    pub fn step<T: Tariff>(
+        &mut self,
+        chart: &Chart,
+        tariff: &T,
+        step: Step,
+    ) -> Result<(), CardFault>
         requires { (g : Gathered) × HoldsColumns chart.now.host.now (T.meaning tariff.now) self.old g }
         ensures { (g : Gathered) → HoldsColumns chart.now.host.now (T.meaning tariff.now) self.old g → AnswersAs (λ g'. tt) (λ g'. self.new ≡ columns_of chart.now.host.now (T.meaning tariff.now) g') result (step_checked chart.now.host.now g (stepped step (last g.column))) }
     {

@@ -69,7 +69,12 @@ impl Gathering {
     }
 
     /// Reads a sheet whole, and answers the place of its end record.
-    pub fn read<T: Tariff>(&mut self, chart: &Chart, tariff: &T, sheet: &[u8]) -> Result<usize, JudgeFault>
+    pub fn read<T: Tariff>(
+        &mut self,
+        chart: &Chart,
+        tariff: &T,
+        sheet: &[u8],
+    ) -> Result<usize, JudgeFault>
         requires { self.old ≡ gathering_of chart.now.host.now (T.meaning tariff.now) blank }
         ensures { AnswersAs (λ p. p.1) (λ p. Holds chart.now.host.now (T.meaning tariff.now) self.new p.0 × (p.0.column ≡ [])) result (gathered chart.now.host.now blank (reading sheet.now)) }
     {

@@ -1,4 +1,4 @@
-use Rattle.std.proofs.Common.{◌≡◌, true, false, refl, rules, arith}
+use Rattle.std.proofs.Common.{◌≡◌, false, refl, rules}
 use Rattle.sheet.specs.declared.record.Record.TheVariants.{End}
 use Rattle.sheet.specs.Records.{is_end}
 use Rattle.judge.specs.Gathering.{gathering_of}
