@@ -63,7 +63,7 @@ across_few toll q (suc n) =
     let few : length one ≤ 1 = cond_both (ltb 0 (toll q n)) (toll_at toll q n ∷ []) [] (λ ts. length ts ≤ 1) (λ t. omega arith) (λ t. omega arith) in
     omega (arith, across_few toll q n, length-append (tolls_across toll q n) one, few)
 
-down_few : (toll : Tolls) (rows : List ℕ) → length (tolls_down toll rows) ≤ 64 * length rows
+pub down_few : (toll : Tolls) (rows : List ℕ) → length (tolls_down toll rows) ≤ 64 * length rows
 down_few toll [] = omega arith
 down_few toll (q ∷ rows) = omega (arith, across_few toll q 64, down_few toll rows, length-append (tolls_across toll q 64) (tolls_down toll rows))
 
