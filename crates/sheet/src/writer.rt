@@ -3,8 +3,8 @@ ghost use Rattle.std.specs.Prelude.{◌≡◌, length};
 ghost use Rattle.sheet.specs.Writers.{number, opening_answer, opening_buffer, put_answer, put_buffer, writer_after};
 ghost use Rattle.sheet.specs.declared.writer.Refusal.TheVariants.{Card};
 
+use crate::reader::Reader;
 use crate::record::{Head, Record};
-use crate::state::State;
 use host::size::Size;
 
 /// Why a call on a writer is refused.
@@ -42,12 +42,11 @@ impl From<host::refusal::Refusal> for Refusal {
     }
 }
 
-/// What has been written, and how many bytes.
+/// What has been written, as where a reader of it would stand.
 // The buffer is given at each call, since it stays the producer's between them.
 #[derive(Clone, Copy)]
 pub struct Writer {
-    state: State,
-    at: usize,
+    reader: Reader,
 }
 
 impl Writer {
@@ -65,8 +64,7 @@ impl Writer {
             return Err(Refusal::NoRow);
         }
         let mut writer = Writer {
-            state: State::Opening,
-            at: 0,
+            reader: Reader::new(),
         };
         let head = Head {
             rows,
@@ -83,15 +81,15 @@ impl Writer {
         ensures writer { self.new ≡ writer_after self.old next (length out.old) }
         ensures buffer { out.new ≡ put_buffer self.old next out.old }
     {
-        let at = self.at;
-        let state = self.state.after(next).ok_or(Refusal::OutOfTurn)?;
+        let mut ahead = self.reader;
+        ahead.turn(next).ok_or(Refusal::OutOfTurn)?;
+        let at = ahead.at;
         if out.len().saturating_sub(at) < next.size() {
             return Err(Refusal::ShortBuffer);
         }
-        let behind = at + next.size();
-        next.write(&mut out[at..behind]);
-        self.state = state;
-        self.at = behind;
-        Ok(behind)
+        ahead.at += next.size();
+        next.write(&mut out[at..ahead.at]);
+        self.reader = ahead;
+        Ok(ahead.at)
     }
 }
