@@ -1,1 +1,1 @@
-mod Cards
+pub mod Cards

@@ -1,6 +1,6 @@
 pub mod Lists
 pub mod TollLists
-pub mod Boards
+pub mod Hosts
 pub mod Placing
 pub mod Advancing
 pub mod Verdicts

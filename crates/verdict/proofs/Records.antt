@@ -5,8 +5,12 @@ use Rattle.std.proofs.ByRecursion.{All-append}
 use Rattle.std.proofs.lemmas.List.{append_assoc}
 use Rattle.std.proofs.lemmas.Bool.{cond-true, lt-ltb}
 use Rattle.std.proofs.lemmas.Bool.Decides.{nat_tests}
+use Rattle.masks.proofs.Masks.{mask_lt}
+use Rattle.host.specs.declared.Host.{Host}
+use Rattle.host.specs.Maps.{stands}
 use Rattle.plans.specs.Columns.{Card, Near, Column, ColumnAlong, GoesOn, standing}
 use Rattle.plans.proofs.Places as Places
+use Rattle.routable.specs.Cards.{card_of}
 use Rattle.sheet.specs.declared.record.Record.{Record}
 use Rattle.sheet.specs.declared.record.Record.TheVariants as r
 use Rattle.sheet.specs.declared.record.Step.{Step}
@@ -16,10 +20,9 @@ use Rattle.sheet.specs.declared.state.State.TheVariants as s
 use Rattle.sheet.specs.Runs.{run_from, run, Fits}
 use Rattle.sheet.specs.Turns.{turn, with_left}
 use Rattle.sheet.proofs.Runs.{run_append}
-use Rattle.verdict.specs.Boards.{Board, card, Proper}
 use Rattle.verdict.specs.Judging.{stepped}
 use Rattle.verdict.specs.Sheets.{step_to, steps, column_records, records}
-use Rattle.verdict.proofs.Boards.{counted, low_rows, narrow}
+use Rattle.verdict.proofs.Hosts.{counted, low_rows, narrow}
 use Rattle.verdict.proofs.Lists.{all_in}
 use Rattle.verdict.proofs.TollLists.{Payable}
 
@@ -52,38 +55,38 @@ tolls_legal : (ts : List Toll) (a : State) → ((t : Toll) → turn a (r.Toll t)
 tolls_legal [] a takes ends = ends
 tolls_legal (t ∷ ts) a takes ends = ap (λ (o : Option State). run_from o (map r.Toll ts ++ r.End ∷ [])) (takes t) ∙ tolls_legal ts s.Tolls (λ d. refl) refl
 
-pub records_legal : (b : Board) (f : List (List ℕ)) (ts : List Toll) → AllByRecursion (Column (card b)) f → run s.Opening (records b f ts) ≡ Some s.Ended
-records_legal b f ts ws =
+pub records_legal : (h : Host) (f : List (List ℕ)) (ts : List Toll) → AllByRecursion (Column (card_of h)) f → run s.Opening (records h f ts) ≡ Some s.Ended
+records_legal h f ts ws =
     let rest = map r.Toll ts ++ r.End ∷ [] in
-    ap (λ (n : ℕ). run (s.Between n) (flat_map column_records f ++ rest)) (counted b)
-    ∙ run_append (Some (s.Between (standing (card b)))) (flat_map column_records f) rest
-    ∙ ap (λ (o : Option State). run_from o rest) (columns_legal (card b) f ws) ∙ tolls_legal ts (s.Between (standing (card b))) (λ d. refl) refl
+    ap (λ (n : ℕ). run (s.Between n) (flat_map column_records f ++ rest)) (counted h)
+    ∙ run_append (Some (s.Between (standing (card_of h)))) (flat_map column_records f) rest
+    ∙ ap (λ (o : Option State). run_from o rest) (columns_legal (card_of h) f ws) ∙ tolls_legal ts (s.Between (standing (card_of h))) (λ d. refl) refl
 
 -- their numbers fit
-module _ (b : Board) (proper : Proper b) where
+module _ (h : Host) where
   steps_fit : (j : ℕ) (ks : List ℕ) → AllByRecursion Fits (steps j ks)
   steps_fit j [] = tt
   steps_fit j (k ∷ ks) = (tt, steps_fit k ks)
 
-  along_fits : (rows a : List ℕ) → ColumnAlong (card b) rows a → AllByRecursion Fits (column_records a)
+  along_fits : (rows a : List ℕ) → ColumnAlong (card_of h) rows a → AllByRecursion Fits (column_records a)
   along_fits [] a w = absurd w
   along_fits (q ∷ rows) [] w = absurd w
-  along_fits (q ∷ rows) (j ∷ ks) w = (omega (arith, narrow b proper q j w.0), steps_fit j ks)
+  along_fits (q ∷ rows) (j ∷ ks) w = (omega (arith, narrow h q j w.0), steps_fit j ks)
 
-  columns_fit : (f : List (List ℕ)) → AllByRecursion (Column (card b)) f → AllByRecursion Fits (flat_map column_records f)
+  columns_fit : (f : List (List ℕ)) → AllByRecursion (Column (card_of h)) f → AllByRecursion Fits (flat_map column_records f)
   columns_fit [] ws = tt
-  columns_fit (a ∷ f) ws = All-append Fits (column_records a) (flat_map column_records f) (along_fits (card b).rows a ws.0) (columns_fit f ws.1)
+  columns_fit (a ∷ f) ws = All-append Fits (column_records a) (flat_map column_records f) (along_fits (card_of h).rows a ws.0) (columns_fit f ws.1)
 
-  tolls_fit : (ts : List Toll) → AllByRecursion (Payable (card b)) ts → AllByRecursion Fits (map r.Toll ts)
+  tolls_fit : (ts : List Toll) → AllByRecursion (Payable (card_of h)) ts → AllByRecursion Fits (map r.Toll ts)
   tolls_fit [] ps = tt
   tolls_fit (t ∷ ts) ps = (
-    (omega (arith, all_in (λ q. q < 64) t.row (card b).rows (low_rows b) ps.0.in_row), omega (arith, narrow b proper t.row t.column ps.0.usable), omega (arith, ps.0.limit)),
+    (omega (arith, all_in (λ q. q < 64) t.row (card_of h).rows (low_rows h) ps.0.in_row), omega (arith, narrow h t.row t.column ps.0.usable), omega (arith, ps.0.limit)),
     tolls_fit ts ps.1,
   )
 
-  pub records_fit : (f : List (List ℕ)) (ts : List Toll) → AllByRecursion (Column (card b)) f → AllByRecursion (Payable (card b)) ts → AllByRecursion Fits (records b f ts)
+  pub records_fit : (f : List (List ℕ)) (ts : List Toll) → AllByRecursion (Column (card_of h)) f → AllByRecursion (Payable (card_of h)) ts → AllByRecursion Fits (records h f ts)
   records_fit f ts ws ps = (
-    (omega (arith, proper.rows_limit), omega (arith, proper.columns_limit), omega (arith, proper.mask_limit)),
+    (omega (arith, h.size.sized.1), omega (arith, h.size.sized.3), mask_lt (stands h) 64),
     All-append Fits (flat_map column_records f) (map r.Toll ts ++ r.End ∷ []) (columns_fit f ws) (All-append Fits (map r.Toll ts) (r.End ∷ []) (tolls_fit ts ps) (tt, tt)),
   )
 
@@ -140,7 +143,7 @@ tolls_no_start : (ts : List Toll) → NoStart (map r.Toll ts ++ r.End ∷ [])
 tolls_no_start [] = tt
 tolls_no_start (t ∷ ts) = tt
 
-pub same_columns : (b : Board) (f g : List (List ℕ)) (ds ts : List Toll) → AllByRecursion (Column (card b)) f → AllByRecursion (Column (card b)) g → records b f ds ≡ records b g ts → f ≡ g
-same_columns b f g ds ts vs ws e =
+pub same_columns : (h : Host) (f g : List (List ℕ)) (ds ts : List Toll) → AllByRecursion (Column (card_of h)) f → AllByRecursion (Column (card_of h)) g → records h f ds ≡ records h g ts → f ≡ g
+same_columns h f g ds ts vs ws e =
     let rest : flat_map column_records f ++ (map r.Toll ds ++ r.End ∷ []) ≡ flat_map column_records g ++ (map r.Toll ts ++ r.End ∷ []) = cc in
-    columns_same (card b) f g (map r.Toll ds ++ r.End ∷ []) (map r.Toll ts ++ r.End ∷ []) vs ws (tolls_no_start ds) (tolls_no_start ts) rest
+    columns_same (card_of h) f g (map r.Toll ds ++ r.End ∷ []) (map r.Toll ts ++ r.End ∷ []) vs ws (tolls_no_start ds) (tolls_no_start ts) rest

@@ -8,6 +8,8 @@ use Rattle.plans.specs.Families.{total}
 use Rattle.plans.specs.Tolls.{Tolls}
 use Rattle.plans.proofs.ByRows.{few_columns, few_rows}
 use Rattle.plans.proofs.Places as Places
+use Rattle.routable.specs.Cards.{card_of}
+use Rattle.routable.proofs.Cards.{within}
 use Rattle.sheet.specs.declared.record.Record.{Record}
 use Rattle.sheet.specs.declared.record.Record.TheVariants as r
 use Rattle.sheet.specs.declared.record.Step.{Step}
@@ -17,10 +19,8 @@ use Rattle.sheet.specs.Records.{bytes, size, all_bytes}
 use Rattle.sheet.specs.Runs.{Fits}
 use Rattle.sheet.proofs.Bodies.{length_bytes}
 use Rattle.sheet.proofs.Bodies.{bytes_under}
-use Rattle.verdict.specs.Boards.{card}
 use Rattle.verdict.specs.Sheets.{step_to, steps, column_records, toll_at, tolls_across, tolls_down, toll_list, records}
 use Rattle.verdict.specs.Theorems.{Bytes, SheetsAreShort}
-use Rattle.verdict.proofs.Boards.{within}
 use Rattle.verdict.proofs.Lists.{total_append}
 
 pub written-bytes : (xs : List Record) → AllByRecursion Fits xs → Bytes (all_bytes xs)
@@ -68,17 +68,17 @@ down_few toll [] = omega arith
 down_few toll (q ∷ rows) = omega (arith, across_few toll q 64, down_few toll rows, length-append (tolls_across toll q 64) (tolls_down toll rows))
 
 pub short : SheetsAreShort
-short b m toll f proper plan =
-    let c = card b in
-    let ts = toll_list b toll in
-    let w = within b proper in
+short h m toll f plan =
+    let c = card_of h in
+    let ts = toll_list h toll in
+    let w = within h in
     let few = few_columns c w f plan.family.each plan.family.apart in
     let rows = few_rows c.rows w.down w.rows_limit in
     let tail = map r.Toll ts ++ r.End ∷ [] in
     let wide : standing c + 1 ≤ 65 = omega arith in
     omega (
       arith,
-      length_all (records b f ts),
+      length_all (records h f ts),
       total_append size (flat_map column_records f) tail,
       total_append size (map r.Toll ts) (r.End ∷ []),
       columns_size c f plan.family.each,

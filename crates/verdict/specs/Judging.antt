@@ -1,12 +1,15 @@
--- The judge of a sheet: whether it is a plan for a board, under a tariff. Assumes nothing.
+-- The judge of a sheet: whether it is a plan for a map, under a tariff. Assumes nothing.
 use Rattle.std.specs.Prelude.{ℕ, ◌+◌, ◌-◌, ◌*◌, Bool, true, cond, not, ◌&&◌, ◌||◌, List, [], ◌∷◌, ◌++◌, length, Some, None, Ok, Err, Option, Result, ◌==◌, nat_le, nat_lt, slice_index}
-use Rattle.masks.specs.Masks.{bit, none}
+use Rattle.masks.specs.Masks.{mask, none}
+use Rattle.host.specs.declared.Host.{Host}
+use Rattle.host.specs.Maps.{usable, stands}
 use Rattle.host.specs.Refusals.{refuse, answered}
 use Rattle.tariff.specs.Meaning.{Meaning}
 use Rattle.plans.specs.Columns.{Card, standing, row}
 use Rattle.plans.specs.Families.{total, total_charge}
 use Rattle.plans.specs.Least.{least, last}
 use Rattle.plans.specs.Tolls.{Tolls, worth}
+use Rattle.routable.specs.Cards.{card_of}
 use Rattle.sheet.specs.declared.record.Head.{Head}
 use Rattle.sheet.specs.declared.record.Record.{Record}
 use Rattle.sheet.specs.declared.record.Record.TheVariants as r
@@ -18,7 +21,6 @@ use Rattle.verdict.specs.declared.fault.CardFault.{CardFault}
 use Rattle.verdict.specs.declared.fault.CardFault.TheVariants.{OtherCard, OutsideHost, NotUsable, NotRight, TollPlace, TollOrder, TollAmount, Underpriced, WrongSum}
 use Rattle.verdict.specs.declared.fault.JudgeFault.{JudgeFault}
 use Rattle.verdict.specs.declared.fault.JudgeFault.TheVariants.{Sheet, Card as OfCard}
-use Rattle.verdict.specs.Boards.{Board, card}
 
 -- what is gathered of a sheet so far: the full columns, the PEs of a column that is not full, and the tolls
 pub record Gathered : Type 0 where
@@ -35,14 +37,14 @@ may_follow test [] y = true
 may_follow test (x ∷ []) y = test x y
 may_follow test (x ∷ x' ∷ xs) y = may_follow test (x' ∷ xs) y
 
--- the head is the board's
-abbrev pub same_head : Board → Head → Bool
-same_head b h = h.rows == b.rows && (h.columns == b.columns && h.standing == b.stand)
+-- the head is the map's
+abbrev pub same_head : Host → Head → Bool
+same_head h x = x.rows == h.size.rows && (x.columns == h.size.columns && x.standing == mask (stands h))
 
 -- one PE more, in physical column j of the next standing row
-abbrev pub with_pe : Board → Gathered → ℕ → Gathered
-with_pe b g j =
-    cond (length (g.column ++ j ∷ []) == standing (card b))
+abbrev pub with_pe : Host → Gathered → ℕ → Gathered
+with_pe h g j =
+    cond (length (g.column ++ j ∷ []) == standing (card_of h))
     (record g { columns = g.columns ++ (g.column ++ j ∷ []) ∷ []; column = [] })
     (record g { column = g.column ++ j ∷ [] })
 
@@ -50,14 +52,14 @@ with_pe b g j =
 abbrev pub right_of_last : Gathered → ℕ → Bool
 right_of_last g j = may_follow (λ a k. nat_lt (slice_index a (length g.column)) k) g.columns j
 
-abbrev pub pe_fault : Board → Gathered → ℕ → Option CardFault
-pe_fault b g j =
-    refuse (not (nat_lt (length g.column) (standing (card b)) && nat_lt j b.columns)) OutsideHost
-    (refuse (not (b.usable (row (card b) (length g.column)) j)) NotUsable
+abbrev pub pe_fault : Host → Gathered → ℕ → Option CardFault
+pe_fault h g j =
+    refuse (not (nat_lt (length g.column) (standing (card_of h)) && nat_lt j h.size.columns)) OutsideHost
+    (refuse (not (usable h (row (card_of h) (length g.column)) j)) NotUsable
     (refuse (not (right_of_last g j)) NotRight None))
 
-abbrev pub pe_checked : Board → Gathered → ℕ → Result Gathered CardFault
-pe_checked b g j = answered (pe_fault b g j) (with_pe b g j)
+abbrev pub pe_checked : Host → Gathered → ℕ → Result Gathered CardFault
+pe_checked h g j = answered (pe_fault h g j) (with_pe h g j)
 
 -- where a step leads from physical column j: left of column 0 there is nothing
 abbrev pub stepped : Step → ℕ → Option ℕ
@@ -65,9 +67,9 @@ stepped Left j = cond (j == 0) None (Some (j - 1))
 stepped Straight j = Some j
 stepped Right j = Some (j + 1)
 
-abbrev pub step_checked : Board → Gathered → Option ℕ → Result Gathered CardFault
-step_checked b g None = Err OutsideHost
-step_checked b g (Some j) = pe_checked b g j
+abbrev pub step_checked : Host → Gathered → Option ℕ → Result Gathered CardFault
+step_checked h g None = Err OutsideHost
+step_checked h g (Some j) = pe_checked h g j
 
 -- one toll before another, by row, then column
 abbrev pub before : Toll → Toll → Bool
@@ -77,25 +79,25 @@ abbrev pub with_toll : Gathered → Toll → Gathered
 with_toll g t = record g { tolls = g.tolls ++ t ∷ [] }
 
 -- a toll is on a usable PE of a standing row, and is 1 to the worth
-abbrev pub tollable : Board → Toll → Bool
-tollable b t = bit b.stand t.row && (nat_lt t.column b.columns && b.usable t.row t.column)
+abbrev pub tollable : Host → Toll → Bool
+tollable h t = stands h t.row && usable h t.row t.column
 
 abbrev pub payable : Toll → Bool
 payable t = nat_le 1 t.amount && nat_le t.amount worth
 
-abbrev pub toll_fault : Board → Gathered → Toll → Option CardFault
-toll_fault b g t =
-    refuse (not (tollable b t)) TollPlace
+abbrev pub toll_fault : Host → Gathered → Toll → Option CardFault
+toll_fault h g t =
+    refuse (not (tollable h t)) TollPlace
     (refuse (not (may_follow before g.tolls t)) TollOrder
     (refuse (not (payable t)) TollAmount None))
 
 -- one record
-abbrev pub checked : Board → Gathered → Record → Result Gathered CardFault
-checked b g (r.Head h) = answered (refuse (not (same_head b h)) OtherCard None) g
-checked b g (r.Start j) = pe_checked b g j
-checked b g (r.Step s) = step_checked b g (stepped s (last g.column))
-checked b g (r.Toll t) = answered (toll_fault b g t) (with_toll g t)
-checked b g r.End = Ok g
+abbrev pub checked : Host → Gathered → Record → Result Gathered CardFault
+checked h g (r.Head x) = answered (refuse (not (same_head h x)) OtherCard None) g
+checked h g (r.Start j) = pe_checked h g j
+checked h g (r.Step s) = step_checked h g (stepped s (last g.column))
+checked h g (r.Toll t) = answered (toll_fault h g t) (with_toll g t)
+checked h g r.End = Ok g
 
 -- a fault has the place of the record that is at fault
 abbrev pub at_place : {A : Type 0} → ℕ → Result A CardFault → Result A JudgeFault
@@ -107,10 +109,10 @@ abbrev pub onward : (Gathered → Result (Gathered × ℕ) JudgeFault) → Resul
 onward more (Err x) = Err x
 onward more (Ok g) = more g
 
-abbrev pub gathered : Board → Gathered → Reading → Result (Gathered × ℕ) JudgeFault
-gathered b g (stops x) = Err (Sheet x)
-gathered b g (ends at) = Ok (g, at)
-gathered b g (then at x more) = onward (λ g'. gathered b g' more) (at_place at (checked b g x))
+abbrev pub gathered : Host → Gathered → Reading → Result (Gathered × ℕ) JudgeFault
+gathered h g (stops x) = Err (Sheet x)
+gathered h g (ends at) = Ok (g, at)
+gathered h g (then at x more) = onward (λ g'. gathered h g' more) (at_place at (checked h g x))
 
 -- the toll of each PE: 0 where it is given none
 abbrev pub toll_of : List Toll → Tolls
@@ -138,5 +140,5 @@ settled c m (Err x) = Err x
 settled c m (Ok p) = at_place p.1 (answered (verdict_fault c m p.0) (record { columns = p.0.columns; tolls = p.0.tolls }))
 
 -- what comes of the bytes of a sheet
-abbrev pub judged : Board → Meaning → List ℕ → Result Accepted JudgeFault
-judged b m bs = settled (card b) m (gathered b blank (reading bs))
+abbrev pub judged : Host → Meaning → List ℕ → Result Accepted JudgeFault
+judged h m bs = settled (card_of h) m (gathered h blank (reading bs))

@@ -1,5 +1,4 @@
 pub mod Faults
-pub mod Boards
 pub mod Judging
 pub mod Sheets
 pub mod Theorems

@@ -1,14 +1,17 @@
 -- The sheet of a family with tolls. Assumes nothing.
 use Rattle.std.specs.Prelude.{ℕ, zero, suc, cond, List, [], ◌∷◌, ◌++◌, map, nat_lt}
 use Rattle.std.specs.List.{flat_map}
+use Rattle.masks.specs.Masks.{mask}
+use Rattle.host.specs.declared.Host.{Host}
+use Rattle.host.specs.Maps.{stands}
 use Rattle.plans.specs.Tolls.{Tolls}
+use Rattle.routable.specs.Cards.{card_of}
 use Rattle.sheet.specs.declared.record.Record.{Record}
 use Rattle.sheet.specs.declared.record.Record.TheVariants as r
 use Rattle.sheet.specs.declared.record.Step.{Step}
 use Rattle.sheet.specs.declared.record.Step.TheVariants.{Left, Straight, Right}
 use Rattle.sheet.specs.declared.record.Toll.{Toll}
 use Rattle.sheet.specs.Records.{all_bytes}
-use Rattle.verdict.specs.Boards.{Board, card}
 
 -- the step from physical column j to column k
 abbrev pub step_to : ℕ → ℕ → Step
@@ -34,19 +37,19 @@ tolls_across toll q (suc n) = tolls_across toll q n ++ cond (nat_lt 0 (toll q n)
 abbrev pub tolls_down : Tolls → List ℕ → List Toll
 tolls_down toll rows = flat_map (λ q. tolls_across toll q 64) rows
 
-abbrev pub head_of : Board → Record
-head_of b = r.Head (record { rows = b.rows; columns = b.columns; standing = b.stand })
+abbrev pub head_of : Host → Record
+head_of h = r.Head (record { rows = h.size.rows; columns = h.size.columns; standing = mask (stands h) })
 
 -- the head, the columns in their order, the tolls, and the end
-abbrev pub records : Board → List (List ℕ) → List Toll → List Record
-records b f ts = head_of b ∷ (flat_map column_records f ++ (map r.Toll ts ++ r.End ∷ []))
+abbrev pub records : Host → List (List ℕ) → List Toll → List Record
+records h f ts = head_of h ∷ (flat_map column_records f ++ (map r.Toll ts ++ r.End ∷ []))
 
 -- by row, then column
-abbrev pub toll_list : Board → Tolls → List Toll
-toll_list b toll = tolls_down toll (card b).rows
+abbrev pub toll_list : Host → Tolls → List Toll
+toll_list h toll = tolls_down toll (card_of h).rows
 
-abbrev pub sheet_records : Board → List (List ℕ) → Tolls → List Record
-sheet_records b f toll = records b f (toll_list b toll)
+abbrev pub sheet_records : Host → List (List ℕ) → Tolls → List Record
+sheet_records h f toll = records h f (toll_list h toll)
 
-abbrev pub sheet_of : Board → List (List ℕ) → Tolls → List ℕ
-sheet_of b f toll = all_bytes (sheet_records b f toll)
+abbrev pub sheet_of : Host → List (List ℕ) → Tolls → List ℕ
+sheet_of h f toll = all_bytes (sheet_records h f toll)
