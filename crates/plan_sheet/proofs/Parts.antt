@@ -2,7 +2,7 @@
 use Rattle.std.proofs.Common.{◌≡◌, ℕ, zero, suc, ◌+◌, ◌-◌, ◌*◌, ◌<◌, ◌≤◌, cond, ltb, List, [], ◌∷◌, ◌++◌, map, length, Some, None, Option, refl, sym, ap, ◌∙◌, append_assoc, add-one, suc-mul, mul-le-mul, arith, length-append}
 use Rattle.std.specs.Prelude.{slice_index, slice_index_or}
 use Rattle.std.specs.List.{flat_map, range_with_len}
-use Rattle.std.proofs.lemmas.Grind.{flat_map-append}
+use Rattle.std.proofs.lemmas.Grind.{common_steps, flat_map-append}
 use Rattle.std.proofs.lemmas.Bool.{cond-true, lt-ltb}
 use Rattle.std.proofs.lemmas.List.{map-append, append-nil}
 use Rattle.std.proofs.lemmas.List.FromFn.{length-map-range_with_len}
@@ -66,6 +66,8 @@ module _ (p : HeldPlan) (standing n : ℕ) where
       let one : standing - s ≡ suc (standing - (s + 1)) = omega arith in
       ap (λ k. all_bytes (column_from above (map pe (range_with_len s k)))) one ∙ ap all_bytes (column_more above (pe s) (map pe (range_with_len (s + 1) (standing - (s + 1)))))
 
+pub ruleset column_parts = (common_steps, left_first, left_last, left_next)
+
 -- the tolls of a row, from its first column on
 module _ (toll : Tolls) (row : ℕ) where
   abbrev at_column : ℕ → List Toll
@@ -103,6 +105,8 @@ module _ (toll : Tolls) (row : ℕ) where
 pub up_to_all : (p : HeldPlan) (row n : ℕ) → n ≡ 64 → up_to (held_tolls p) row n ≡ toll_bytes p row
 unfolding up_to
 up_to_all p row n e = ap (λ i. all_bytes (map r.Toll (tolls_across (held_tolls p) row i))) e
+
+pub ruleset toll_parts = (common_steps, up_to_none, up_to_toll, up_to_no_toll, up_to_all)
 
 column_small : (a : List ℕ) → total size (column_records a) ≤ length a + 1
 column_small [] = omega arith

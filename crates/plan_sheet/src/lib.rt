@@ -5,6 +5,7 @@ ghost use Rattle.std.specs.Prelude.{◌≡◌, ◌+◌, ◌<◌, ◌≤◌, ◌+
 ghost use Rattle.arrayvec.specs.ArrayVec.{array_vec_len};
 ghost use Rattle.sheet.specs.Records.{size, bytes};
 ghost use Rattle.plan_sheet.specs.Writing.{number, answer, buffer};
+ghost use Rattle.plan_sheet.specs.Theorems.{WrittenIsAccepted, WrittenIsShort};
 ghost use Rattle.plan_sheet.specs.Parts.{held_sheet, column_bytes, record_below, toll_bytes};
 
 use arrayvec::ArrayVec;
@@ -13,6 +14,9 @@ use masks::iter::Members;
 use plans::held::HeldPlan;
 use sheet::record::{Head, Record, Step, Toll};
 use std::cmp::Ordering;
+
+#[cfg(test)]
+mod tests;
 
 /// The buffer has no room for the whole sheet.
 #[derive(Clone, Copy, PartialEq, Debug)]
@@ -27,11 +31,12 @@ impl From<ShortBuffer> for u8 {
     }
 }
 
-/// The bytes of a sheet: no sheet has more.
+/// Room for any sheet.
 type Bytes = ArrayVec<u8, 32_844>;
 
-/// Writes the sheet of a plan at the front of a buffer, whole or not at all, and answers its length. So many of the plan's columns
-/// are its family, 64 at most.
+/// Writes the sheet of a plan at the front of a buffer, whole or not at all, and answers its length. The plan's family is its first
+/// columns, so many of them; there are 64 at most.
+// Made in memory of its own first, so that a buffer that is too short stays as it was.
 pub fn write_plan(
     host: &Host,
     plan: &HeldPlan,
@@ -75,7 +80,7 @@ fn sheet_of(host: &Host, plan: &HeldPlan, columns: usize) -> Bytes
 }
 
 /// Puts column n of a plan, along so many rows, behind what has been put.
-#[tactic(auto, using(std::proofs::lemmas::Grind::common_steps, crate::proofs::Parts::left_first, crate::proofs::Parts::left_last, crate::proofs::Parts::left_next))]
+#[tactic(auto, using(crate::proofs::Parts::column_parts))]
 fn put_column(plan: &HeldPlan, standing: usize, n: usize, sheet: &mut Bytes)
     requires rows { standing ≤ 64 }
     requires columns { n < 64 }
@@ -105,7 +110,7 @@ fn record_below(above: Option<u8>, column: u8) -> Record
 }
 
 /// Puts the tolls of a row, left to right, behind what has been put.
-#[tactic(auto, using(std::proofs::lemmas::Grind::common_steps, crate::proofs::Parts::up_to_none, crate::proofs::Parts::up_to_toll, crate::proofs::Parts::up_to_no_toll, crate::proofs::Parts::up_to_all))]
+#[tactic(auto, using(crate::proofs::Parts::toll_parts))]
 fn put_tolls(plan: &HeldPlan, row: u8, sheet: &mut Bytes)
     requires within { row < 64 }
     requires room { array_vec_len sheet.old + length (toll_bytes plan.now row) ≤ 32844 }
@@ -136,3 +141,13 @@ fn put(next: Record, sheet: &mut Bytes)
     next.write(bytes);
     let _ = sheet.try_extend_from_slice(bytes);
 }
+
+/// The sheet of a plan that is held is accepted, with the plan's columns and tolls.
+pub fn written_is_accepted()
+    ensures { WrittenIsAccepted }
+{}
+
+/// Whatever is held, its sheet has at most 32,844 bytes.
+pub fn written_is_short()
+    ensures { WrittenIsShort }
+{}
