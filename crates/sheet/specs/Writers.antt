@@ -1,5 +1,6 @@
 -- What the calls on a writer answer, and what they leave. Assumes nothing.
 use Rattle.std.specs.Prelude.{ℕ, ◌+◌, Bool, not, ◌&&◌, List, ◌++◌, length, take, drop, None, is_none, Option, Result, ◌==◌, nat_lt}
+use Rattle.std.specs.Option.{option_or}
 use Rattle.masks.specs.Masks.{bit, none}
 use Rattle.host.specs.Refusals.{refuse, answered, unless, number as card_number}
 use Rattle.host.specs.Sizes.{fits}
@@ -51,11 +52,15 @@ head rows columns standing = Head (record { rows = rows; columns = columns; stan
 abbrev pub reaches_out : ℕ → ℕ → Bool
 reaches_out rows standing = not (none (λ i. bit standing i && not (nat_lt i rows)))
 
-abbrev pub opening_refusal : ℕ → ℕ → ℕ → ℕ → Option Refusal
-opening_refusal rows columns standing room =
+-- what is wrong with a head, whatever the map
+abbrev pub head_refusal : ℕ → ℕ → ℕ → Option Refusal
+head_refusal rows columns standing =
     refuse (not (fits rows columns)) (Card BadSize)
     (refuse (reaches_out rows standing) (Card Outside)
-    (refuse (standing == 0) NoRow (put_refusal new_writer (head rows columns standing) room)))
+    (refuse (standing == 0) NoRow None))
+
+abbrev pub opening_refusal : ℕ → ℕ → ℕ → ℕ → Option Refusal
+opening_refusal rows columns standing room = option_or (head_refusal rows columns standing) (put_refusal new_writer (head rows columns standing) room)
 
 abbrev pub opening_answer : ℕ → ℕ → ℕ → ℕ → Result Writer Refusal
 opening_answer rows columns standing room =

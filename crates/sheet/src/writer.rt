@@ -1,6 +1,7 @@
 //! A writer of sheets for producers: it sees to the turn of each record, and checks no map.
 ghost use Rattle.std.specs.Prelude.{◌≡◌, length};
-ghost use Rattle.sheet.specs.Writers.{number, opening_answer, opening_buffer, put_answer, put_buffer, writer_after};
+ghost use Rattle.host.specs.Refusals.{answered};
+ghost use Rattle.sheet.specs.Writers.{head_refusal, number, opening_answer, opening_buffer, put_answer, put_buffer, writer_after};
 ghost use Rattle.sheet.specs.declared.writer.Refusal.TheVariants.{Card};
 
 use crate::reader::Reader;
@@ -56,20 +57,9 @@ impl Writer {
         ensures answer { result ≡ opening_answer rows columns standing (length out.old) }
         ensures buffer { out.new ≡ opening_buffer rows columns standing out.old }
     {
-        Size::test(rows, columns)?;
-        if masks::without(standing, masks::below(rows)) != 0 {
-            return Err(Refusal::Card(host::refusal::Refusal::Outside));
-        }
-        if standing == 0 {
-            return Err(Refusal::NoRow);
-        }
+        let head = tested_head(rows, columns, standing)?;
         let mut writer = Writer {
             reader: Reader::new(),
-        };
-        let head = Head {
-            rows,
-            columns,
-            standing,
         };
         writer.put(Record::Head(head), out)?;
         Ok(writer)
@@ -92,4 +82,23 @@ impl Writer {
         self.reader = ahead;
         Ok(ahead.at)
     }
+}
+
+/// The head of a sheet for a card of this size with these standing rows, if there is such a card.
+#[tactic(auto, using(crate::proofs::Outside::outside_is))]
+fn tested_head(rows: u8, columns: u8, standing: u64) -> Result<Head, Refusal>
+    ensures { result ≡ answered (head_refusal rows columns standing) (record { rows = rows; columns = columns; standing = standing }) }
+{
+    Size::test(rows, columns)?;
+    if masks::without(standing, masks::below(rows)) != 0 {
+        return Err(Refusal::Card(host::refusal::Refusal::Outside));
+    }
+    if standing == 0 {
+        return Err(Refusal::NoRow);
+    }
+    Ok(Head {
+        rows,
+        columns,
+        standing,
+    })
 }
