@@ -39,6 +39,9 @@ pub record Valid (h : Host) (g : Gathered) : Type 0 where
   pub part : Part (card_of h) g.columns g.column
   pub listed : Listed (card_of h) g.tolls
 
+pub valid_blank : (h : Host) → Valid h blank
+valid_blank h = record { each = tt; ordered = tt; part = part_none (card_of h) []; listed = record { sorted = tt; each = tt } }
+
 abbrev pub Linked : Host → State → Gathered → Type 0
 Linked h s.Opening g = g ≡ blank
 Linked h (s.Between n) g = (n ≡ standing (card_of h)) × (g.column ≡ []) × (g.tolls ≡ []) × Valid h g
@@ -46,6 +49,13 @@ Linked h (s.Column n left) g =
     (n ≡ standing (card_of h)) × (left + length g.column ≡ standing (card_of h)) × (0 < length g.column) × (g.tolls ≡ []) × Valid h g
 Linked h s.Tolls g = (g.column ≡ []) × Valid h g
 Linked h s.Ended g = (g.column ≡ []) × Valid h g
+
+pub linked_valid : (h : Host) (a : State) (g : Gathered) → Linked h a g → Valid h g
+linked_valid h s.Opening g l = subst (Valid h) (sym l) (valid_blank h)
+linked_valid h (s.Between n) g l = l.3
+linked_valid h (s.Column n left) g l = l.4
+linked_valid h s.Tolls g l = l.1
+linked_valid h s.Ended g l = l.1
 
 -- the records that led to it
 abbrev pub said : Host → Gathered → List Record
@@ -203,8 +213,7 @@ advance_head : (h : Host) (g : Gathered) (x : Head) (g' : Gathered) → g ≡ bl
 advance_head h g x g' none e =
     let p = passed-head h g x g' e in
     let same : g' ≡ blank = sym p.3 ∙ none in
-    let valid : Valid h blank = record { each = tt; ordered = tt; part = part_none (card_of h) []; listed = record { sorted = tt; each = tt } } in
-    let linked : Linked h (s.Between (how_many (bit x.standing))) blank = (ap (λ (m : ℕ). how_many (bit m)) p.2 ∙ counted h, refl, refl, valid) in
+    let linked : Linked h (s.Between (how_many (bit x.standing))) blank = (ap (λ (m : ℕ). how_many (bit m)) p.2 ∙ counted h, refl, refl, valid_blank h) in
     let says : said h blank ≡ r.Head x ∷ [] = λ i. r.Head (record { rows = sym p.0 i; columns = sym p.1 i; standing = sym p.2 i }) ∷ [] in
     record { linked = subst (Linked h (s.Between (how_many (bit x.standing)))) (sym same) linked; says = ap (said h) same ∙ says }
 

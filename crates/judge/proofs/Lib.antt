@@ -1,0 +1,13 @@
+mod Cells
+mod Lasts
+mod Limits
+mod Charges
+mod Faults
+mod Answers
+mod Puts
+mod TollTables
+mod Parts
+mod Nexts
+mod Readings
+mod Settlings
+mod Judgings

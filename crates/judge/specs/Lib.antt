@@ -1,0 +1,3 @@
+pub mod Judge
+pub mod Charts
+pub mod Gathering

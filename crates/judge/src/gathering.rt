@@ -1,0 +1,88 @@
+//! What is gathered of a sheet, record by record.
+ghost use Rattle.std.specs.Prelude.{◌≡◌, [], drop};
+ghost use Rattle.host.specs.declared.Host.{Host};
+ghost use Rattle.tariff.specs.Meaning.{Meaning};
+ghost use Rattle.sheet.specs.Readings.{taken, reader_after, reading};
+ghost use Rattle.verdict.specs.Judging.{Gathered, blank, checked, gathered};
+ghost use Rattle.judge.specs.Gathering.{gathering_of, Holds, AnswersAs, next_gathered};
+
+use crate::chart::Chart;
+use crate::columns::GatheredColumns;
+use crate::tolls::GatheredTolls;
+use sheet::reader::Reader;
+use sheet::record::Record;
+use tariff::Tariff;
+use verdict::fault::{CardFault, JudgeFault};
+
+/// The columns and the tolls that have come.
+#[derive(Clone, Copy)]
+pub struct Gathering {
+    pub columns: GatheredColumns,
+    pub tolls: GatheredTolls,
+}
+
+impl Gathering {
+    /// Before the first record.
+    pub fn none() -> Gathering
+        ensures { (h : Host) (m : Meaning) → result ≡ gathering_of h m blank }
+    {
+        Gathering {
+            columns: GatheredColumns::none(),
+            tolls: GatheredTolls::none(),
+        }
+    }
+
+    /// Checks a record, and takes it in.
+    fn take<T: Tariff>(&mut self, chart: &Chart, tariff: &T, next: Record) -> Result<(), CardFault>
+        requires { (g : Gathered) × Holds chart.now.host.now (T.meaning tariff.now) self.old g }
+        ensures { (g : Gathered) → Holds chart.now.host.now (T.meaning tariff.now) self.old g →
+            AnswersAs (λ g'. tt) (λ g'. self.new ≡ gathering_of chart.now.host.now (T.meaning tariff.now) g') result (checked chart.now.host.now g next) }
+    {
+        match next {
+            Record::Head(head) => chart.check_head(head),
+            Record::Start(column) => self.columns.put(chart, tariff, column),
+            Record::Step(step) => self.columns.step(chart, tariff, step),
+            Record::Toll(toll) => self.tolls.add(chart, toll),
+            Record::End => Ok(()),
+        }
+    }
+
+    /// Takes in the next record of a sheet.
+    fn take_next<T: Tariff>(
+        &mut self,
+        chart: &Chart,
+        tariff: &T,
+        reader: &mut Reader,
+        sheet: &[u8],
+    ) -> Result<Record, JudgeFault>
+        requires { (g : Gathered) × Holds chart.now.host.now (T.meaning tariff.now) self.old g }
+        ensures reader { reader.new ≡ reader_after reader.old (taken reader.old sheet.now) }
+        ensures gathered { (g : Gathered) → Holds chart.now.host.now (T.meaning tariff.now) self.old g →
+            AnswersAs (λ p. p.0) (λ p. self.new ≡ gathering_of chart.now.host.now (T.meaning tariff.now) p.1) result (next_gathered chart.now.host.now g reader.old.at (taken reader.old sheet.now)) }
+    {
+        let at = reader.place();
+        let record = reader.take(sheet)?;
+        match self.take(chart, tariff, record) {
+            Ok(()) => Ok(record),
+            Err(fault) => Err(JudgeFault::Card { fault, at }),
+        }
+    }
+
+    /// Reads a sheet whole, and answers the place of its end record.
+    pub fn read<T: Tariff>(&mut self, chart: &Chart, tariff: &T, sheet: &[u8]) -> Result<usize, JudgeFault>
+        requires { self.old ≡ gathering_of chart.now.host.now (T.meaning tariff.now) blank }
+        ensures { AnswersAs (λ p. p.1) (λ p. Holds chart.now.host.now (T.meaning tariff.now) self.new p.0 × (p.0.column ≡ [])) result (gathered chart.now.host.now blank (reading sheet.now)) }
+    {
+        let mut reader = Reader::new();
+        loop {
+            let at = reader.place();
+            let record = match self.take_next(chart, tariff, &mut reader, sheet) {
+                Ok(record) => record,
+                Err(fault) => break Err(fault),
+            };
+            if record == Record::End {
+                break Ok(at);
+            }
+        }
+    }
+}
