@@ -1,11 +1,9 @@
 // Greedy column rerouting, written apart from the proved one, and both timed on the same random cards in one run.
-#include <algorithm>
-#include <chrono>
+#include "timing.hpp"
 #include <cstdint>
 #include <cstdio>
 #include <cstring>
 #include <random>
-#include <vector>
 
 extern "C" uint32_t greedy_columns(uint64_t *untried, size_t rows, uint8_t *out, size_t room);
 
@@ -41,17 +39,6 @@ struct Plain {
             }
     }
 };
-
-double microseconds(std::chrono::steady_clock::time_point from)
-{
-    return std::chrono::duration<double, std::micro>(std::chrono::steady_clock::now() - from).count();
-}
-
-double median(std::vector<double> &v)
-{
-    std::nth_element(v.begin(), v.begin() + v.size() / 2, v.end());
-    return v[v.size() / 2];
-}
 
 } // namespace
 

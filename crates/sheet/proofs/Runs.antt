@@ -166,7 +166,7 @@ wrote_all buffer (x ∷ xs) ys d w = go (put_refusal d.writer x (length d.buffer
         Wrote buffer (ys ++ done_of d (x ∷ xs)) (after_puts (put_on d x) xs)
     go (Some f) e more =
         let writer : writer_after d.writer x (length d.buffer) ≡ d.writer = ap (λ (o : Option Refusal). unless o d.writer (put_done d.writer x)) e in
-        let page : put_buffer d.writer x d.buffer ≡ d.buffer = ap (λ (o : Option Refusal). unless o d.buffer (laid d.writer.at (bytes x) d.buffer)) e in
+        let page : put_buffer d.writer x d.buffer ≡ d.buffer = ap (λ (o : Option Refusal). unless o d.buffer (laid d.writer.reader.at (bytes x) d.buffer)) e in
         let same : d ≡ put_on d x = λ i. record { writer = sym writer i; buffer = sym page i } in
         let skipped : rest ≡ done_of d (x ∷ xs) = sym (ap (λ (o : Option Refusal). unless o rest (x ∷ rest)) e) in
         subst (λ (zs : List Record). Wrote buffer (ys ++ zs) (after_puts (put_on d x) xs)) skipped (more ys (subst (Wrote buffer ys) same w))

@@ -1,5 +1,5 @@
 -- A sheet, whatever the card: records, each in its turn, up to the end record or the first fault. Assumes nothing.
-use Rattle.std.specs.Prelude.{ℕ, zero, suc, ◌+◌, cond, ◌&&◌, List, [], ◌∷◌, length, drop, Some, None, Ok, Err, Option, Result, nat_lt}
+use Rattle.std.specs.Prelude.{ℕ, zero, suc, ◌+◌, cond, ◌&&◌, List, [], ◌∷◌, length, drop, Some, None, unwrap_or, Ok, Err, Option, Result, nat_lt}
 use Rattle.records.specs.declared.RecordFault.{RecordFault}
 use Rattle.sheet.specs.declared.fault.SheetFault.{SheetFault}
 use Rattle.sheet.specs.declared.fault.SheetFault.TheVariants.{Record as InRecord, OutOfTurn, NoEnd, AfterEnd}
@@ -27,6 +27,10 @@ next s at (b ∷ bs) = found s at (length (b ∷ bs)) (record_from at (b ∷ bs)
 
 abbrev pub new_reader : Reader
 new_reader = record { state = Opening; at = 0 }
+
+-- a record that may not come here changes nothing
+abbrev pub turned : Reader → Record → Reader
+turned r x = record r { state = unwrap_or (turn r.state x) r.state }
 
 -- what a reader takes from a sheet
 abbrev pub taken : Reader → List ℕ → Result (Record × State) SheetFault

@@ -57,5 +57,5 @@ new_desk buffer = record { writer = new_writer; buffer = buffer }
 -- the records ys were written at the front of a buffer, which leaves a writer and what was behind them
 pub record Wrote (buffer : List ℕ) (ys : List Record) (d : Desk) : Type 0 where
   pub bytes : d.buffer ≡ laid 0 (all_bytes ys) buffer
-  pub place : d.writer.at ≡ length (all_bytes ys)
-  pub legal : run Opening ys ≡ Some d.writer.state
+  pub place : d.writer.reader.at ≡ length (all_bytes ys)
+  pub legal : run Opening ys ≡ Some d.writer.reader.state

@@ -1,17 +1,18 @@
 -- What the calls on a writer answer, and what they leave. Assumes nothing.
-use Rattle.std.specs.Prelude.{ℕ, ◌+◌, Bool, not, ◌&&◌, List, ◌++◌, length, take, drop, None, is_none, unwrap_or, Option, Result, ◌==◌, nat_lt}
+use Rattle.std.specs.Prelude.{ℕ, ◌+◌, Bool, not, ◌&&◌, List, ◌++◌, length, take, drop, None, is_none, Option, Result, ◌==◌, nat_lt}
+use Rattle.std.specs.Option.{option_or}
 use Rattle.masks.specs.Masks.{bit, none}
 use Rattle.host.specs.Refusals.{refuse, answered, unless, number as card_number}
 use Rattle.host.specs.Sizes.{fits}
 use Rattle.host.specs.declared.refusal.Refusal.TheVariants.{BadSize, Outside}
 use Rattle.sheet.specs.declared.record.Record.{Record}
 use Rattle.sheet.specs.declared.record.Record.TheVariants.{Head}
-use Rattle.sheet.specs.declared.state.State.TheVariants.{Opening}
 use Rattle.sheet.specs.declared.writer.Refusal.{Refusal}
 use Rattle.sheet.specs.declared.writer.Refusal.TheVariants.{Card, NoRow, OutOfTurn, ShortBuffer}
 use Rattle.sheet.specs.declared.writer.Writer.{Writer}
 use Rattle.sheet.specs.Records.{bytes, size}
 use Rattle.sheet.specs.Turns.{turn}
+use Rattle.sheet.specs.Readings.{new_reader, turned}
 
 abbrev pub number : Refusal → ℕ
 number (Card x) = card_number x
@@ -25,24 +26,24 @@ laid at text buffer = take at buffer ++ (text ++ drop (at + length text) buffer)
 
 -- a record is refused where it is out of turn, and then where there is no room for it
 abbrev pub put_refusal : Writer → Record → ℕ → Option Refusal
-put_refusal w x room = refuse (is_none (turn w.state x)) OutOfTurn (refuse (nat_lt room (w.at + size x)) ShortBuffer None)
+put_refusal w x room = refuse (is_none (turn w.reader.state x)) OutOfTurn (refuse (nat_lt room (w.reader.at + size x)) ShortBuffer None)
 
 -- the length of the sheet so far
 abbrev pub put_answer : Writer → Record → ℕ → Result ℕ Refusal
-put_answer w x room = answered (put_refusal w x room) (w.at + size x)
+put_answer w x room = answered (put_refusal w x room) (w.reader.at + size x)
 
 abbrev pub put_done : Writer → Record → Writer
-put_done w x = record { state = unwrap_or (turn w.state x) w.state; at = w.at + size x }
+put_done w x = record { reader = record (turned w.reader x) { at = w.reader.at + size x } }
 
 abbrev pub writer_after : Writer → Record → ℕ → Writer
 writer_after w x room = unless (put_refusal w x room) w (put_done w x)
 
 abbrev pub put_buffer : Writer → Record → List ℕ → List ℕ
-put_buffer w x buffer = unless (put_refusal w x (length buffer)) buffer (laid w.at (bytes x) buffer)
+put_buffer w x buffer = unless (put_refusal w x (length buffer)) buffer (laid w.reader.at (bytes x) buffer)
 
 -- before the head
 abbrev pub new_writer : Writer
-new_writer = record { state = Opening; at = 0 }
+new_writer = record { reader = new_reader }
 
 abbrev pub head : ℕ → ℕ → ℕ → Record
 head rows columns standing = Head (record { rows = rows; columns = columns; standing = standing })
@@ -51,11 +52,15 @@ head rows columns standing = Head (record { rows = rows; columns = columns; stan
 abbrev pub reaches_out : ℕ → ℕ → Bool
 reaches_out rows standing = not (none (λ i. bit standing i && not (nat_lt i rows)))
 
-abbrev pub opening_refusal : ℕ → ℕ → ℕ → ℕ → Option Refusal
-opening_refusal rows columns standing room =
+-- what is wrong with a head, whatever the map
+abbrev pub head_refusal : ℕ → ℕ → ℕ → Option Refusal
+head_refusal rows columns standing =
     refuse (not (fits rows columns)) (Card BadSize)
     (refuse (reaches_out rows standing) (Card Outside)
-    (refuse (standing == 0) NoRow (put_refusal new_writer (head rows columns standing) room)))
+    (refuse (standing == 0) NoRow None))
+
+abbrev pub opening_refusal : ℕ → ℕ → ℕ → ℕ → Option Refusal
+opening_refusal rows columns standing room = option_or (head_refusal rows columns standing) (put_refusal new_writer (head rows columns standing) room)
 
 abbrev pub opening_answer : ℕ → ℕ → ℕ → ℕ → Result Writer Refusal
 opening_answer rows columns standing room =

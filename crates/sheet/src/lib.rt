@@ -7,6 +7,8 @@ pub mod fault;
 pub mod reader;
 pub mod record;
 pub mod state;
+#[cfg(test)]
+mod tests;
 pub mod writer;
 
 /// What is written reads back, and what is read was so written.

@@ -1,6 +1,8 @@
 //! A reader that takes the records of a sheet, each in its turn.
 ghost use Rattle.std.specs.Prelude.{◌≡◌};
-ghost use Rattle.sheet.specs.Readings.{new_reader, taken, answer_of, reader_after};
+ghost use Rattle.std.specs.Option.{option_map};
+ghost use Rattle.sheet.specs.Turns.{turn};
+ghost use Rattle.sheet.specs.Readings.{new_reader, turned, taken, answer_of, reader_after};
 
 use crate::fault::SheetFault;
 use crate::record::{Kind, Record};
@@ -13,7 +15,7 @@ use records::record_at;
 #[derive(Clone, Copy)]
 pub struct Reader {
     state: State,
-    at: usize,
+    pub(crate) at: usize,
 }
 
 impl Reader {
@@ -45,14 +47,47 @@ impl Reader {
             return Err(SheetFault::NoEnd { at });
         }
         let (kind, body) = record_at::<Kind>(sheet, at)?;
-        let found = Record::of(kind, body);
-        let state = self.state.after(found).ok_or(SheetFault::OutOfTurn { at })?;
-        let behind = at + found.size();
-        if found == Record::End && behind < sheet.len() {
-            return Err(SheetFault::AfterEnd { at: behind });
+        let next = Record::of(kind, body);
+        let mut ahead = *self;
+        ahead.turn(next).ok_or(SheetFault::OutOfTurn { at })?;
+        ahead.at += next.size();
+        if next == Record::End && ahead.at < sheet.len() {
+            return Err(SheetFault::AfterEnd { at: ahead.at });
         }
-        self.state = state;
-        self.at = behind;
-        Ok(found)
+        *self = ahead;
+        Ok(next)
+    }
+
+    /// Takes a record in its turn, which settles what may come next. One that may not come here changes nothing.
+    // The place is left to the callers, since a writer first tests whether there is room.
+    pub(crate) fn turn(&mut self, next: Record) -> Option<()>
+        ensures answer { result ≡ option_map (λ s. tt) (turn self.old.state next) }
+        ensures reader { self.new ≡ turned self.old next }
+    {
+        match (&mut self.state, next) {
+            (State::Opening, Record::Head(head)) => {
+                self.state = State::Between {
+                    standing: masks::count(head.standing),
+                }
+            }
+            (State::Between { standing }, Record::Start(_)) if *standing > 1 => {
+                self.state = State::Column {
+                    standing: *standing,
+                    left: *standing - 1,
+                }
+            }
+            // A column of one PE is full at once.
+            (State::Between { .. }, Record::Start(_)) => {}
+            (State::Column { left, .. }, Record::Step(_)) if *left > 1 => *left -= 1,
+            (State::Column { standing, .. }, Record::Step(_)) => {
+                self.state = State::Between {
+                    standing: *standing,
+                }
+            }
+            (State::Between { .. } | State::Tolls, Record::Toll(_)) => self.state = State::Tolls,
+            (State::Between { .. } | State::Tolls, Record::End) => self.state = State::Ended,
+            _ => return None,
+        }
+        Some(())
     }
 }

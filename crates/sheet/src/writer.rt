@@ -1,10 +1,11 @@
 //! A writer of sheets for producers: it sees to the turn of each record, and checks no map.
 ghost use Rattle.std.specs.Prelude.{◌≡◌, length};
-ghost use Rattle.sheet.specs.Writers.{number, opening_answer, opening_buffer, put_answer, put_buffer, writer_after};
+ghost use Rattle.host.specs.Refusals.{answered};
+ghost use Rattle.sheet.specs.Writers.{head_refusal, number, opening_answer, opening_buffer, put_answer, put_buffer, writer_after};
 ghost use Rattle.sheet.specs.declared.writer.Refusal.TheVariants.{Card};
 
+use crate::reader::Reader;
 use crate::record::{Head, Record};
-use crate::state::State;
 use host::size::Size;
 
 /// Why a call on a writer is refused.
@@ -42,12 +43,11 @@ impl From<host::refusal::Refusal> for Refusal {
     }
 }
 
-/// What has been written, and how many bytes.
+/// What has been written, as where a reader of it would stand.
 // The buffer is given at each call, since it stays the producer's between them.
 #[derive(Clone, Copy)]
 pub struct Writer {
-    state: State,
-    at: usize,
+    reader: Reader,
 }
 
 impl Writer {
@@ -57,21 +57,9 @@ impl Writer {
         ensures answer { result ≡ opening_answer rows columns standing (length out.old) }
         ensures buffer { out.new ≡ opening_buffer rows columns standing out.old }
     {
-        Size::test(rows, columns)?;
-        if masks::without(standing, masks::below(rows)) != 0 {
-            return Err(Refusal::Card(host::refusal::Refusal::Outside));
-        }
-        if standing == 0 {
-            return Err(Refusal::NoRow);
-        }
+        let head = tested_head(rows, columns, standing)?;
         let mut writer = Writer {
-            state: State::Opening,
-            at: 0,
-        };
-        let head = Head {
-            rows,
-            columns,
-            standing,
+            reader: Reader::new(),
         };
         writer.put(Record::Head(head), out)?;
         Ok(writer)
@@ -83,15 +71,34 @@ impl Writer {
         ensures writer { self.new ≡ writer_after self.old next (length out.old) }
         ensures buffer { out.new ≡ put_buffer self.old next out.old }
     {
-        let at = self.at;
-        let state = self.state.after(next).ok_or(Refusal::OutOfTurn)?;
+        let mut ahead = self.reader;
+        ahead.turn(next).ok_or(Refusal::OutOfTurn)?;
+        let at = ahead.at;
         if out.len().saturating_sub(at) < next.size() {
             return Err(Refusal::ShortBuffer);
         }
-        let behind = at + next.size();
-        next.write(&mut out[at..behind]);
-        self.state = state;
-        self.at = behind;
-        Ok(behind)
+        ahead.at += next.size();
+        next.write(&mut out[at..ahead.at]);
+        self.reader = ahead;
+        Ok(ahead.at)
     }
+}
+
+/// The head of a sheet for a card of this size with these standing rows, if there is such a card.
+#[tactic(auto, using(crate::proofs::Outside::outside_is))]
+fn tested_head(rows: u8, columns: u8, standing: u64) -> Result<Head, Refusal>
+    ensures { result ≡ answered (head_refusal rows columns standing) (record { rows = rows; columns = columns; standing = standing }) }
+{
+    Size::test(rows, columns)?;
+    if masks::without(standing, masks::below(rows)) != 0 {
+        return Err(Refusal::Card(host::refusal::Refusal::Outside));
+    }
+    if standing == 0 {
+        return Err(Refusal::NoRow);
+    }
+    Ok(Head {
+        rows,
+        columns,
+        standing,
+    })
 }

@@ -27,7 +27,7 @@ pub written-bytes : (xs : List Record) → AllByRecursion Fits xs → Bytes (all
 written-bytes [] f = tt
 written-bytes (x ∷ xs) f = All-append (λ b. b < 256) (bytes x) (all_bytes xs) (bytes_under x f.0) (written-bytes xs f.1)
 
-length_all : (xs : List Record) → length (all_bytes xs) ≡ total size xs
+pub length_all : (xs : List Record) → length (all_bytes xs) ≡ total size xs
 length_all [] = refl
 length_all (x ∷ xs) = omega (arith, length-append (bytes x) (all_bytes xs), length_bytes x, length_all xs)
 
@@ -41,7 +41,7 @@ steps-size j [] = refl
 steps-size j (k ∷ ks) = omega (arith, step_size (step_to j k), steps-size k ks)
 
 -- a column has one byte more than PEs
-column_size : (a : List ℕ) → 0 < length a → total size (column_records a) ≡ length a + 1
+pub column_size : (a : List ℕ) → 0 < length a → total size (column_records a) ≡ length a + 1
 column_size [] some = absurd (omega arith)
 column_size (j ∷ ks) some = omega (arith, steps-size j ks)
 
@@ -51,7 +51,7 @@ columns_size c (a ∷ f) ws =
     let pl = (Places.column c a).0 ws.0 in
     omega (arith, suc-mul (length f) (standing c + 1), total_append size (column_records a) (flat_map column_records f), column_size a (omega (arith, pl.0, pl.1)), pl.1, columns_size c f ws.1)
 
-tolls_size : (ts : List Toll) → total size (map r.Toll ts) ≡ 7 * length ts
+pub tolls_size : (ts : List Toll) → total size (map r.Toll ts) ≡ 7 * length ts
 tolls_size [] = refl
 tolls_size (t ∷ ts) = omega (arith, tolls_size ts)
 

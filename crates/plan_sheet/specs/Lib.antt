@@ -1,0 +1,3 @@
+pub mod Parts
+pub mod Writing
+pub mod Theorems
