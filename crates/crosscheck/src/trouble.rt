@@ -1,4 +1,5 @@
 //! Why a run ends early.
+use std::alloc::AllocError;
 use std::io;
 
 #[derive(Debug, Drop)]
@@ -9,6 +10,14 @@ pub enum Trouble {
     Card(host::refusal::Refusal),
     /// a tariff refused a call
     Tariff(tariff::Refusal),
+    /// a word that should be a number is none
+    NoNumber,
+}
+
+impl From<AllocError> for Trouble {
+    fn from(x: AllocError) -> Trouble {
+        Trouble::Io(io::Error::from(x))
+    }
 }
 
 impl From<io::Error> for Trouble {
