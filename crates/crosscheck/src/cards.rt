@@ -16,10 +16,10 @@ pub fn random_card(chance: &mut Chance) -> Result<Host, Refusal> {
 
 /// Mostly small; now and then of any size, or as large as can be.
 fn random_size(chance: &mut Chance) -> Result<Size, Refusal> {
-    let most = match chance.small(0, 99) {
+    let most = match chance.small(0, 199) {
         0 => return Size::test(64, 64),
-        1..=4 => 64,
-        5..=19 => 24,
+        1..=5 => 64,
+        6..=30 => 24,
         _ => 8,
     };
     Size::test(chance.small(1, most), chance.small(1, most))

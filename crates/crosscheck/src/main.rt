@@ -22,6 +22,8 @@ mod network;
 mod ours;
 mod plan_check;
 mod tariffs;
+#[cfg(test)]
+mod tests;
 mod tolls;
 mod trouble;
 

@@ -8,6 +8,20 @@ use plans::held::HeldPlan;
 use std::alloc::{AllocError, Global};
 use tariff::Tariff;
 
+/// Whether it is a plan of so many columns at the charge that is told.
+pub fn is_plan<T: Tariff>(
+    alloc: Global,
+    host: &Host,
+    tariff: &T,
+    plan: &HeldPlan,
+    told: Best,
+) -> Result<bool, AllocError> {
+    Ok(
+        holds_family(alloc, host, tariff, plan, told)?
+            && tolls_support(alloc, host, tariff, plan, told)?,
+    )
+}
+
 /// Whether a plan holds as many columns as told, a family without crossings at the charge that is told.
 pub fn holds_family<T: Tariff>(
     alloc: Global,

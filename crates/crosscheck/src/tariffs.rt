@@ -36,9 +36,10 @@ impl Kind {
     }
 }
 
-/// Any wire, long or short.
+/// Any wire, more often short, so that heat over it has room.
 pub fn random_wire(chance: &mut Chance) -> Result<WireLength, Refusal> {
-    WireLength::new(chance.within(1, 250), chance.within(1, 500))
+    let most = chance.within(1, 250);
+    WireLength::new(chance.within(1, most), chance.within(1, 2 * most))
 }
 
 /// A layer of heat over a card of this size; little heat often makes charges equal.
