@@ -1,27 +1,24 @@
-//! The number of columns of a best family, and its total charge.
+//! How many columns a best family has, and what it costs.
+use crate::card::Card;
 use crate::network::{Network, SOURCE};
-use host::Host;
-use std::alloc::{AllocError, Global};
+use std::alloc::AllocError;
 use tariff::Tariff;
 
+/// A number of columns and their total charge.
 #[derive(Clone, Copy, PartialEq, Debug)]
-pub struct Best {
+pub struct Answer {
     pub columns: u32,
     pub charge: u32,
 }
 
-/// What a best family is, by the greatest flow at the least cost; none where no row stands.
-pub fn best_family<T: Tariff>(
-    alloc: Global,
-    host: &Host,
-    tariff: &T,
-) -> Result<Option<Best>, AllocError> {
-    if (0..host.size().rows()).all(|row| !host.is_standing(row)) {
+/// By the greatest flow at the least cost; none where no row stands.
+pub fn best_family<T: Tariff + Drop>(card: &Card<T>) -> Result<Option<Answer>, AllocError> {
+    if card.rows.is_empty() {
         return Ok(None);
     }
-    let mut network = Network::of_card(alloc, host, tariff)?;
-    network.fill(alloc)?;
-    let mut best = Best {
+    let mut network = Network::of_card(card)?;
+    network.fill(card.alloc)?;
+    let mut best = Answer {
         columns: 0,
         charge: 0,
     };

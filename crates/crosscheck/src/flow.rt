@@ -11,19 +11,6 @@ struct Label {
     waits: bool,
 }
 
-impl Edge {
-    /// Where a unit at a node can go over this edge, and at what cost: on where it is not used, back where it is.
-    fn step_from(self, node: usize) -> Option<(usize, i64)> {
-        if !self.used && self.from == node {
-            Some((self.to, i64::from(self.cost)))
-        } else if self.used && self.to == node {
-            Some((self.from, -i64::from(self.cost)))
-        } else {
-            None
-        }
-    }
-}
-
 impl Network {
     /// Sends one unit after another along a cheapest path, until no path is left.
     pub fn fill(&mut self, alloc: Global) -> Result<(), AllocError> {
@@ -49,7 +36,7 @@ impl Network {
         }
         let mut queue = VecDeque::new(alloc);
         queue.push_back(SOURCE)?;
-        // It ends when the queue is empty: used edges are those of a cheapest flow, so no cycle has a negative cost.
+        // The queue runs empty: the flow so far is a cheapest one of its size, so that no cycle has a negative cost.
         for _ in 0..u64::MAX {
             let Some(node) = queue.pop_front() else {
                 break;
@@ -59,42 +46,26 @@ impl Network {
         Ok(labels)
     }
 
-    /// Lowers the labels of the nodes one step from a node.
+    /// Lowers what can be lowered one step from a node.
     fn go_on(
         &self,
         node: usize,
         labels: &mut [Label],
         queue: &mut VecDeque<usize>,
     ) -> Result<(), AllocError> {
-        let Some(label) = labels.get_mut(node) else {
-            return Ok(())
-        };
-        label.waits = false;
-        let Some(cost) = label.cost else {
-            return Ok(())
+        let Some(cost) = labels.get_mut(node).and_then(Label::done) else {
+            return Ok(());
         };
         let Some(edges) = self.at.get(node) else {
-            return Ok(())
+            return Ok(());
         };
         for number in edges {
-            let Some((next, step)) = self
-                .edges
-                .get(*number)
-                .and_then(|edge| edge.step_from(node))
-            else {
-                continue
-            };
-            let Some(label) = labels.get_mut(next) else {
-                continue
-            };
-            let cost = cost.saturating_add(step);
-            if label.cost.is_none_or(|old| cost < old) {
-                label.cost = Some(cost);
-                label.by = Some(*number);
-                if !label.waits {
-                    label.waits = true;
-                    queue.push_back(next)?;
-                }
+            if let Some(edge) = self.edges.get(*number)
+                && let Some((next, step)) = edge.step_from(node)
+                && let Some(label) = labels.get_mut(next)
+                && label.lower(cost.saturating_add(step), *number)
+            {
+                queue.push_back(next)?;
             }
         }
         Ok(())
@@ -114,5 +85,38 @@ impl Network {
             node = if edge.used { edge.from } else { edge.to };
         }
         node == SOURCE
+    }
+}
+
+impl Edge {
+    /// Where a unit at a node can go over this edge, and at what cost: on where it is not used, back where it is.
+    fn step_from(self, node: usize) -> Option<(usize, i64)> {
+        if !self.used && self.from == node {
+            Some((self.to, i64::from(self.cost)))
+        } else if self.used && self.to == node {
+            Some((self.from, -i64::from(self.cost)))
+        } else {
+            None
+        }
+    }
+}
+
+impl Label {
+    /// Lowers the label, if this way is cheaper; tells whether its node has to be put into the queue.
+    fn lower(&mut self, cost: i64, by: usize) -> bool {
+        if self.cost.is_some_and(|old| old <= cost) {
+            return false;
+        }
+        self.cost = Some(cost);
+        self.by = Some(by);
+        let waited = self.waits;
+        self.waits = true;
+        !waited
+    }
+
+    /// Takes the node out of the queue, and tells its cost.
+    fn done(&mut self) -> Option<i64> {
+        self.waits = false;
+        self.cost
     }
 }

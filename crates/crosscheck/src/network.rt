@@ -1,5 +1,5 @@
 //! The network of a card: a unit of flow is a column.
-use host::Host;
+use crate::card::{Card, is_near};
 use std::alloc::{AllocError, Global};
 use tariff::Tariff;
 use tariff::pe::Pe;
@@ -25,7 +25,7 @@ pub struct Network {
     pub at: Vec<Vec<usize>>,
 }
 
-/// A usable PE of a standing row, and the node that leaves it.
+/// A usable PE of a standing row, and the node that a column leaves it from.
 #[derive(Clone, Copy)]
 struct Exit {
     pe: Pe,
@@ -33,6 +33,22 @@ struct Exit {
 }
 
 impl Network {
+    /// Each usable PE of a standing row is two nodes, joined by an edge that one column can take.
+    pub fn of_card<T: Tariff + Drop>(card: &Card<T>) -> Result<Network, AllocError> {
+        let mut network = Network::new(card.alloc)?;
+        let mut above = None;
+        for row in &card.rows {
+            above = Some(network.add_row(card, *row, above)?);
+        }
+        if let Some(last) = above {
+            for exit in &last {
+                network.add_edge(exit.node, SINK, 0)?;
+            }
+        }
+        Ok(network)
+    }
+
+    /// A source and a sink.
     fn new(alloc: Global) -> Result<Network, AllocError> {
         let mut network = Network {
             edges: Vec::new(alloc),
@@ -44,8 +60,9 @@ impl Network {
     }
 
     fn add_node(&mut self, alloc: Global) -> Result<usize, AllocError> {
+        let number = self.at.len();
         self.at.push(Vec::new(alloc))?;
-        Ok(self.at.len() - 1)
+        Ok(number)
     }
 
     fn add_edge(&mut self, from: usize, to: usize, cost: u32) -> Result<(), AllocError> {
@@ -64,64 +81,38 @@ impl Network {
         Ok(())
     }
 
-    /// The network of a card: each usable PE of a standing row is two nodes, joined by an edge that one column can take.
-    pub fn of_card<T: Tariff>(
-        alloc: Global,
-        host: &Host,
-        tariff: &T,
-    ) -> Result<Network, AllocError> {
-        let mut network = Network::new(alloc)?;
-        let mut above = None;
-        for row in 0..host.size().rows() {
-            if host.is_standing(row) {
-                above = Some(network.add_row(alloc, host, tariff, row, above)?);
-            }
-        }
-        if let Some(last) = above {
-            for exit in &last {
-                network.add_edge(exit.node, SINK, 0)?;
-            }
-        }
-        Ok(network)
-    }
-
-    /// Adds a standing row below the exits of the standing row above it, if there is one.
-    fn add_row<T: Tariff>(
+    /// Adds a row below the exits of the row above it, or below the source.
+    fn add_row<T: Tariff + Drop>(
         &mut self,
-        alloc: Global,
-        host: &Host,
-        tariff: &T,
+        card: &Card<T>,
         row: u8,
         above: Option<Vec<Exit>>,
     ) -> Result<Vec<Exit>, AllocError> {
-        let mut exits = Vec::new(alloc);
-        for column in 0..host.size().columns() {
-            if host.is_usable(row, column) {
-                let pe = Pe::at(row, column);
-                let entry = self.add_node(alloc)?;
-                let node = self.add_node(alloc)?;
-                self.add_edge(entry, node, 0)?;
-                match &above {
-                    None => self.add_edge(SOURCE, entry, tariff.entry(pe))?,
-                    Some(above) => self.add_links(tariff, above, pe, entry)?,
-                }
-                exits.push(Exit { pe, node })?;
+        let mut exits = Vec::new(card.alloc);
+        for pe in &card.usable_pes(row)? {
+            let entry = self.add_node(card.alloc)?;
+            let node = self.add_node(card.alloc)?;
+            self.add_edge(entry, node, 0)?;
+            match &above {
+                None => self.add_edge(SOURCE, entry, card.tariff.entry(*pe))?,
+                Some(above) => self.add_links(card, above, *pe, entry)?,
             }
+            exits.push(Exit { pe: *pe, node })?;
         }
         Ok(exits)
     }
 
     /// Adds the links to a PE.
-    fn add_links<T: Tariff>(
+    fn add_links<T: Tariff + Drop>(
         &mut self,
-        tariff: &T,
+        card: &Card<T>,
         above: &[Exit],
         pe: Pe,
         entry: usize,
     ) -> Result<(), AllocError> {
-        for upper in above {
-            if upper.pe.column.abs_diff(pe.column) <= 1 {
-                self.add_edge(upper.node, entry, tariff.link(upper.pe, pe))?;
+        for exit in above {
+            if is_near(exit.pe, pe) {
+                self.add_edge(exit.node, entry, card.tariff.link(exit.pe, pe))?;
             }
         }
         Ok(())

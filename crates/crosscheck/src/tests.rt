@@ -1,6 +1,8 @@
 //! Cards and plans worked out by hand.
-use crate::best::{Best, best_family};
-use crate::plan_check::is_plan;
+use crate::best::{Answer, best_family};
+use crate::card::Card;
+use crate::columns::holds_family;
+use crate::tolls;
 use crate::tolls::WORTH;
 use crate::trouble::Trouble;
 use host::Host;
@@ -14,7 +16,7 @@ use tariff::heat::Heat;
 use tariff::links::Links;
 use tariff::pe::Pe;
 
-fn card(rows: u8, columns: u8, faulty: &[Part]) -> Result<Host, host::refusal::Refusal> {
+fn map(rows: u8, columns: u8, faulty: &[Part]) -> Result<Host, host::refusal::Refusal> {
     let mut host = Host::open(Size::test(rows, columns)?);
     for part in faulty {
         host.mark(*part, 1)?;
@@ -22,51 +24,43 @@ fn card(rows: u8, columns: u8, faulty: &[Part]) -> Result<Host, host::refusal::R
     Ok(host)
 }
 
+fn answer(columns: u32, charge: u32) -> Answer {
+    Answer { columns, charge }
+}
+
 #[test]
 fn best_families_over_links(rt: HostRuntime) -> Result<(), Fail> {
-    for (rows, columns, faulty, number, charge) in [
-        (1, 1, [].as_slice(), 1, 0),
-        (1, 1, [PeAt(0, 0)].as_slice(), 0, 0),
-        (3, 3, [PeAt(1, 1)].as_slice(), 2, 0),
-        (2, 3, [PeAt(0, 0), PeAt(1, 2)].as_slice(), 2, 2),
-        (3, 3, [ColumnSwitch(0, 1)].as_slice(), 2, 0),
-        (3, 3, [RowSwitch(1, 0), PeAt(1, 1)].as_slice(), 3, 0),
+    for (rows, columns, faulty, best) in [
+        (1, 1, [].as_slice(), answer(1, 0)),
+        (1, 1, [PeAt(0, 0)].as_slice(), answer(0, 0)),
+        (3, 3, [PeAt(1, 1)].as_slice(), answer(2, 0)),
+        (2, 3, [PeAt(0, 0), PeAt(1, 2)].as_slice(), answer(2, 2)),
+        (3, 3, [ColumnSwitch(0, 1)].as_slice(), answer(2, 0)),
+        (3, 3, [RowSwitch(1, 0), PeAt(1, 1)].as_slice(), answer(3, 0)),
     ] {
-        let host = card(rows, columns, faulty)?;
-        let best = best_family(rt.alloc(), &host, &Links)?;
-        assert_eq!(rt;
-            best,
-            Some(Best {
-                columns: number,
-                charge
-            })
-        );
+        let card = Card::new(rt.alloc(), map(rows, columns, faulty)?, Links)?;
+        assert_eq!(rt; best_family(&card)?, Some(best));
     }
     Ok(())
 }
 
 #[test]
 fn without_a_standing_row_there_is_no_family(rt: HostRuntime) -> Result<(), Fail> {
-    let mut host = card(2, 2, &[RowSwitch(0, 0)])?;
+    let mut host = map(2, 2, &[RowSwitch(0, 0)])?;
     host.choose(1, 0)?;
-    assert_eq!(rt; best_family(rt.alloc(), &host, &Links)?, None);
+    let card = Card::new(rt.alloc(), host, Links)?;
+    assert_eq!(rt; best_family(&card)?, None);
     Ok(())
 }
 
 #[test]
 fn heat_of_the_first_row_counts(rt: HostRuntime) -> Result<(), Fail> {
-    let host = card(2, 3, &[PeAt(0, 0), PeAt(0, 2)])?;
     let mut heat = Heat::new(Links);
-    for (row, column, heats) in [(0, 1, 2), (1, 0, 5), (1, 1, 9), (1, 2, 3)] {
-        heat.set(Pe::at(row, column), heats)?;
+    for (row, column, degrees) in [(0, 1, 2), (1, 0, 5), (1, 1, 9), (1, 2, 3)] {
+        heat.set(Pe::at(row, column), degrees)?;
     }
-    assert_eq!(rt;
-        best_family(rt.alloc(), &host, &heat)?,
-        Some(Best {
-            columns: 1,
-            charge: 6
-        })
-    );
+    let card = Card::new(rt.alloc(), map(2, 3, &[PeAt(0, 0), PeAt(0, 2)])?, heat)?;
+    assert_eq!(rt; best_family(&card)?, Some(answer(1, 6)));
     Ok(())
 }
 
@@ -81,41 +75,18 @@ fn two_long_links() -> HeldPlan {
     plan
 }
 
-const TWO: Best = Best {
-    columns: 2,
-    charge: 2,
-};
-
 /// Whether a plan is taken for the card of these two columns.
-fn is_taken(alloc: Global, plan: &HeldPlan, told: Best) -> Result<bool, Trouble> {
-    let host = card(2, 3, &[PeAt(0, 0), PeAt(1, 2)])?;
-    Ok(is_plan(alloc, &host, &Links, plan, told)?)
+fn is_taken(alloc: Global, plan: &HeldPlan, told: Answer) -> Result<bool, Trouble> {
+    let card = Card::new(alloc, map(2, 3, &[PeAt(0, 0), PeAt(1, 2)])?, Links)?;
+    Ok(holds_family(&card, plan, told)? && tolls::support(&card, plan, told)?)
 }
 
 #[test]
 fn a_plan_is_taken_as_it_is_told(rt: HostRuntime) -> Result<(), Fail> {
     let plan = two_long_links();
-    assert!(rt; is_taken(rt.alloc(), &plan, TWO)?);
-    assert!(rt;
-        !is_taken(
-            rt.alloc(),
-            &plan,
-            Best {
-                columns: 2,
-                charge: 1
-            }
-        )?
-    );
-    assert!(rt;
-        !is_taken(
-            rt.alloc(),
-            &plan,
-            Best {
-                columns: 1,
-                charge: 1
-            }
-        )?
-    );
+    assert!(rt; is_taken(rt.alloc(), &plan, answer(2, 2))?);
+    assert!(rt; !is_taken(rt.alloc(), &plan, answer(2, 1))?);
+    assert!(rt; !is_taken(rt.alloc(), &plan, answer(1, 1))?);
     Ok(())
 }
 
@@ -124,14 +95,14 @@ fn tolls_have_to_support_the_family(rt: HostRuntime) -> Result<(), Fail> {
     for toll in [0, WORTH - 2, WORTH] {
         let mut plan = two_long_links();
         plan.tolls[1][1] = toll;
-        assert!(rt; !is_taken(rt.alloc(), &plan, TWO)?);
+        assert!(rt; !is_taken(rt.alloc(), &plan, answer(2, 2))?);
     }
     Ok(())
 }
 
 #[test]
 fn columns_have_to_be_a_family_from_left_to_right(rt: HostRuntime) -> Result<(), Fail> {
-    // the columns exchanged, one that shares a PE, one on a faulty PE, and something held past the columns
+    // the columns exchanged, two that share a PE, one on a faulty PE, and something held past the columns
     for (upper, lower) in [
         ([2, 1, 0], [1, 0, 0]),
         ([1, 2, 0], [1, 1, 0]),
@@ -143,7 +114,7 @@ fn columns_have_to_be_a_family_from_left_to_right(rt: HostRuntime) -> Result<(),
             plan.rows[0].columns[n] = upper[n];
             plan.rows[1].columns[n] = lower[n];
         }
-        assert!(rt; !is_taken(rt.alloc(), &plan, TWO)?);
+        assert!(rt; !is_taken(rt.alloc(), &plan, answer(2, 2))?);
     }
     Ok(())
 }

@@ -1,12 +1,12 @@
-//! Random cards.
+//! Random maps of cards.
 use crate::chance::Chance;
 use host::Host;
 use host::part::Part;
 use host::refusal::Refusal;
 use host::size::Size;
 
-/// A card with some faulty PEs, and now and then faulty switches and rows left out.
-pub fn random_card(chance: &mut Chance) -> Result<Host, Refusal> {
+/// Some faulty PEs, and now and then faulty switches and rows left out.
+pub fn random_map(chance: &mut Chance) -> Result<Host, Refusal> {
     let mut host = Host::open(random_size(chance)?);
     draw_pes(&mut host, chance)?;
     break_switches(&mut host, chance);
