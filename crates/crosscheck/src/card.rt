@@ -1,0 +1,47 @@
+//! A card as all programs here are asked about it: where columns can go, and what they cost.
+use host::Host;
+use std::alloc::{AllocError, Global};
+use tariff::Tariff;
+use tariff::pe::Pe;
+
+#[derive(Drop)]
+pub struct Card<T> {
+    pub alloc: Global,
+    pub host: Host,
+    pub tariff: T,
+    /// the standing rows, going down
+    pub rows: Vec<u8>,
+}
+
+impl<T: Tariff + Drop> Card<T> {
+    pub fn new(alloc: Global, host: Host, tariff: T) -> Result<Card<T>, AllocError> {
+        let mut rows = Vec::new(alloc);
+        for row in 0..host.size().rows() {
+            if host.is_standing(row) {
+                rows.push(row)?;
+            }
+        }
+        Ok(Card {
+            alloc,
+            host,
+            tariff,
+            rows,
+        })
+    }
+
+    /// The usable PEs of a row, from left to right.
+    pub fn usable_pes(&self, row: u8) -> Result<Vec<Pe>, AllocError> {
+        let mut pes = Vec::new(self.alloc);
+        for column in 0..self.host.size().columns() {
+            if self.host.is_usable(row, column) {
+                pes.push(Pe::at(row, column))?;
+            }
+        }
+        Ok(pes)
+    }
+}
+
+/// Whether a PE of the next standing row is near enough for a link.
+pub fn is_near(upper: Pe, lower: Pe) -> bool {
+    upper.column.abs_diff(lower.column) <= 1
+}
