@@ -10,6 +10,7 @@ use Rattle.plans.specs.Least.{last}
 use Rattle.routable.specs.Cards.{card_of}
 use Rattle.sheet.specs.declared.fault.SheetFault.{SheetFault}
 use Rattle.sheet.specs.declared.record.Record.{Record}
+use Rattle.sheet.specs.declared.record.Record.TheVariants as r
 use Rattle.sheet.specs.declared.record.Toll.{Toll}
 use Rattle.sheet.specs.declared.state.State.{State}
 use Rattle.verdict.specs.declared.fault.JudgeFault.{JudgeFault}
@@ -78,6 +79,11 @@ gathering_of h m g = record { columns = columns_of h m g; tolls = tolls_of g.tol
 pub record Holds (h : Host) (m : Meaning) (s : Gathering) (g : Gathered) : Type 0 where
   pub valid : Valid h g
   pub is : s ≡ gathering_of h m g
+
+-- the place of a record, if it is the end
+abbrev pub end_at : ℕ → Record → Option ℕ
+end_at at r.End = Some at
+end_at at _ = None
 
 -- what comes of the next record of a sheet, found at a place
 abbrev pub with_next : Record → Result Gathered JudgeFault → Result (Record × Gathered) JudgeFault

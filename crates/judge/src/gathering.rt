@@ -4,7 +4,7 @@ ghost use Rattle.host.specs.declared.Host.{Host};
 ghost use Rattle.tariff.specs.Meaning.{Meaning};
 ghost use Rattle.sheet.specs.Readings.{taken, reader_after, reading};
 ghost use Rattle.verdict.specs.Judging.{Gathered, blank, checked, gathered};
-ghost use Rattle.judge.specs.Gathering.{gathering_of, Holds, AnswersAs, next_gathered};
+ghost use Rattle.judge.specs.Gathering.{gathering_of, Holds, AnswersAs, next_gathered, end_at};
 
 use crate::chart::Chart;
 use crate::columns::GatheredColumns;
@@ -47,47 +47,49 @@ impl Gathering {
         }
     }
 
-    /// Takes in the next record of a sheet.
+    /// Takes in the next record of a sheet, and answers its place if it is the end.
     fn take_next<T: Tariff>(
         &mut self,
         chart: &Chart,
         tariff: &T,
         reader: &mut Reader,
         sheet: &[u8],
-    ) -> Result<Record, JudgeFault>
+    ) -> Result<Option<usize>, JudgeFault>
         requires { (g : Gathered) × Holds chart.now.host.now (T.meaning tariff.now) self.old g }
         ensures reader { reader.new ≡ reader_after reader.old (taken reader.old sheet.now) }
         ensures gathered { (g : Gathered) → Holds chart.now.host.now (T.meaning tariff.now) self.old g →
-            AnswersAs (λ p. p.0) (λ p. self.new ≡ gathering_of chart.now.host.now (T.meaning tariff.now) p.1) result (next_gathered chart.now.host.now g reader.old.at (taken reader.old sheet.now)) }
+            AnswersAs (λ p. end_at reader.old.at p.0) (λ p. self.new ≡ gathering_of chart.now.host.now (T.meaning tariff.now) p.1) result (next_gathered chart.now.host.now g reader.old.at (taken reader.old sheet.now)) }
     {
         let at = reader.place();
         let record = reader.take(sheet)?;
         match self.take(chart, tariff, record) {
-            Ok(()) => Ok(record),
+            Ok(()) => Ok(end_at(at, record)),
             Err(fault) => Err(JudgeFault::Card { fault, at }),
         }
     }
 
     /// Reads a sheet whole, and answers the place of its end record.
-    pub fn read<T: Tariff>(
-        &mut self,
-        chart: &Chart,
-        tariff: &T,
-        sheet: &[u8],
-    ) -> Result<usize, JudgeFault>
+    pub fn read<T: Tariff>(&mut self, chart: &Chart, tariff: &T, sheet: &[u8]) -> Result<usize, JudgeFault>
         requires { self.old ≡ gathering_of chart.now.host.now (T.meaning tariff.now) blank }
         ensures { AnswersAs (λ p. p.1) (λ p. Holds chart.now.host.now (T.meaning tariff.now) self.new p.0 × (p.0.column ≡ [])) result (gathered chart.now.host.now blank (reading sheet.now)) }
     {
         let mut reader = Reader::new();
         loop {
-            let at = reader.place();
-            let record = match self.take_next(chart, tariff, &mut reader, sheet) {
-                Ok(record) => record,
+            match self.take_next(chart, tariff, &mut reader, sheet) {
+                Ok(None) => {}
+                Ok(Some(end)) => break Ok(end),
                 Err(fault) => break Err(fault),
-            };
-            if record == Record::End {
-                break Ok(at);
             }
         }
+    }
+}
+
+/// The place of a record, if it is the end.
+fn end_at(at: usize, found: Record) -> Option<usize>
+    ensures { result ≡ end_at at found }
+{
+    match found {
+        Record::End => Some(at),
+        _ => None,
     }
 }
