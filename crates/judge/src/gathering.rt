@@ -12,6 +12,7 @@ use crate::tolls::GatheredTolls;
 use sheet::reader::Reader;
 use sheet::record::Record;
 use tariff::Tariff;
+use tariff::pe::Pe;
 use verdict::fault::{CardFault, JudgeFault};
 
 /// The columns and the tolls that have come.
@@ -42,7 +43,13 @@ impl Gathering {
             Record::Head(head) => chart.check_head(head),
             Record::Start(column) => self.columns.put(chart, tariff, column),
             Record::Step(step) => self.columns.step(chart, tariff, step),
-            Record::Toll(toll) => self.tolls.add(chart, toll),
+            Record::Toll(toll) => {
+                let pe = Pe {
+                    row: toll.row,
+                    column: toll.column,
+                };
+                self.tolls.add(chart, pe, toll.amount)
+            }
             Record::End => Ok(()),
         }
     }
