@@ -13,6 +13,7 @@ use Rattle.sheet.specs.declared.record.Record.{Record}
 use Rattle.sheet.specs.declared.record.Record.TheVariants as r
 use Rattle.sheet.specs.declared.record.Toll.{Toll}
 use Rattle.sheet.specs.declared.state.State.{State}
+use Rattle.verdict.specs.declared.fault.CardFault.{CardFault}
 use Rattle.verdict.specs.declared.fault.JudgeFault.{JudgeFault}
 use Rattle.verdict.specs.declared.fault.JudgeFault.TheVariants.{Sheet}
 use Rattle.verdict.specs.Judging.{Gathered, toll_of, checked, at_place}
@@ -102,3 +103,7 @@ next_gathered h g at (Ok p) = with_next p.0 (at_place at (checked h g p.0))
 abbrev pub AnswersAs : {A B X : Type 0} → (B → A) → (B → Type 0) → Result A X → Result B X → Type 0
 AnswersAs f P r (Err x) = r ≡ Err x
 AnswersAs f P r (Ok b) = (r ≡ Ok (f b)) × P b
+
+-- the same for a check that answers no more than whether it found a fault
+abbrev pub ChecksAs : (Gathered → Type 0) → Result (Unit {0}) CardFault → Result Gathered CardFault → Type 0
+ChecksAs P r d = AnswersAs (λ g. tt) P r d

@@ -2,7 +2,7 @@
 ghost use Rattle.std.specs.Prelude.{◌≡◌, []};
 ghost use Rattle.host.specs.Refusals.{answered};
 ghost use Rattle.verdict.specs.Judging.{Gathered, toll_fault, with_toll};
-ghost use Rattle.judge.specs.Gathering.{toll_on, after_last, tolls_of, HoldsTolls, AnswersAs};
+ghost use Rattle.judge.specs.Gathering.{toll_on, after_last, tolls_of, HoldsTolls, ChecksAs};
 
 use crate::chart::Chart;
 use plans::WORTH;
@@ -44,7 +44,8 @@ impl GatheredTolls {
 
     /// What is wrong with the next toll, if anything is.
     fn check(&self, chart: &Chart, pe: Pe, amount: u32) -> Result<(), CardFault>
-        ensures { (g : Gathered) → self.now ≡ tolls_of g.tolls → result ≡ answered (toll_fault chart.now.host.now g (toll_on pe amount)) tt }
+        ensures { let t = toll_on pe amount in
+            (g : Gathered) → self.now ≡ tolls_of g.tolls → result ≡ answered (toll_fault chart.now.host.now g t) tt }
     {
         if !chart.is_standing(pe.row) || !chart.is_usable(pe) {
             return Err(CardFault::TollPlace);
@@ -61,8 +62,8 @@ impl GatheredTolls {
     /// Adds the next toll.
     pub fn add(&mut self, chart: &Chart, pe: Pe, amount: u32) -> Result<(), CardFault>
         requires { (g : Gathered) × HoldsTolls chart.now.host.now self.old g }
-        ensures { (g : Gathered) → HoldsTolls chart.now.host.now self.old g →
-            AnswersAs (λ g'. tt) (λ g'. self.new ≡ tolls_of g'.tolls) result (answered (toll_fault chart.now.host.now g (toll_on pe amount)) (with_toll g (toll_on pe amount))) }
+        ensures { let h = chart.now.host.now in let t = toll_on pe amount in
+            (g : Gathered) → HoldsTolls h self.old g → ChecksAs (λ g'. self.new ≡ tolls_of g'.tolls) result (answered (toll_fault h g t) (with_toll g t)) }
     {
         self.check(chart, pe, amount)?;
         self.amounts[usize::from(pe.row)][usize::from(pe.column)] = amount;
