@@ -17,4 +17,4 @@ overflow_add-self c =
 
 pub returns : goal.returns
 returns c = λ g holds.
-    added _ _ g holds c.args.toll (c.in_ok-check.ensures g holds.is) _ _ _ c.from.ensures c.from-2.ensures c.from-3.ensures
+    added _ _ g holds c.args.pe c.args.amount (c.in_ok-check.ensures g holds.is) _ _ _ c.from.ensures c.from-2.ensures c.from-3.ensures
