@@ -117,7 +117,7 @@ impl From<Record> for Kind {
 impl Record {
     /// The record of a kind with this body.
     // By index: slice patterns would need an arm that no body takes.
-    pub fn of(kind: Kind, body: &[u8]) -> Record
+    pub(crate) fn of(kind: Kind, body: &[u8]) -> Record
         requires { body_length kind ≤ length body.now }
         ensures { result ≡ made kind body.now }
     {
