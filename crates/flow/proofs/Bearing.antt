@@ -1,0 +1,55 @@
+-- Which label bears the label below a place. Assumes nothing.
+use Rattle.std.proofs.Common.{◌≡◌, ℕ, ◌+◌, ◌≤◌, true, false, sym, refl, ap, ◌∙◌, subst, inl, inr, arith}
+use Rattle.std.proofs.lemmas.Bool.{both_ways, cases_Bool, cond-true, cond-false}
+use Rattle.flow.specs.Nets.{Net, Lawful, Flow, Goes, Bears, charge}
+use Rattle.flow.specs.Fits.{Conserved, Labels, Labelled}
+
+module _ {P : Type 0} (N : Net P) (F : Flow P) where
+  pub bears_idle : (a : P) → N.Usable a → F.used a ≡ false → Bears N F a a 0
+  bears_idle a o f = record { from = o; to = o; how = inl (f, refl, refl) }
+
+  -- only one label bears it
+  pub bears_one : (a u x : P) (k j : ℕ) → Bears N F a u k → Bears N F a x j → (x ≡ u) × (j ≡ k)
+  bears_one a u x k j b d = elim b.how [
+    | inl i ↦ elim d.how [
+      | inl e ↦ (e.1 ∙ sym i.1, omega arith)
+      | inr g ↦ absurd (both_ways (F.used a) i.0 g.0.used)
+    ]
+    | inr g ↦ elim d.how [
+      | inl e ↦ absurd (both_ways (F.used a) e.0 g.0.used)
+      | inr f ↦ let same : x ≡ u = sym f.0.to ∙ g.0.to in (same, f.1 ∙ ap (N.cost a) same ∙ sym g.1)
+    ]
+  ]
+
+  -- the label above a place is no lower than the one below makes it
+  pub bears_low : (L : Labels P) (Hole : P → Type 0) → Labelled N F L Hole → (a u : P) (k : ℕ) → Bears N F a u k → L.into a + k ≤ L.into u
+  bears_low L Hole h a u k b = omega (arith, h.along a u k b a 0 (inr (refl, refl)))
+
+  module _ (law : Lawful N) (Hole : P → Type 0) (h : Conserved N F Hole) where
+    pub bears-goes : (a u : P) → Goes N F a u → Bears N F a u (N.cost a u)
+    bears-goes a u g = record { from = g.usable; to = law.to (h.goes a u g).0; how = inr (g, refl) }
+
+    -- where the flow comes from
+    pub bears_prev : (u : P) → N.Usable u → (N.First u → F.used u ≡ true → ⊥) → (Hole u → ⊥) → Bears N F (F.prev u) u (charge N F u)
+    bears_prev u o first hole = elim (cases_Bool (F.used u)) [
+      | inl t ↦
+          let g = h.comes u o t (λ f. first f t) hole in
+          record { from = g.usable; to = o; how = inr (g, cond-true (F.used u) (N.cost (F.prev u) u) 0 t) }
+      | inr f ↦
+          let is = h.idle u o f in
+          record {
+            from = subst N.Usable (sym is) o;
+            to = o;
+            how = inl (ap F.used is ∙ f, sym is, cond-false (F.used u) (N.cost (F.prev u) u) 0 f);
+          }
+    ]
+
+    pub bears_only : (a u : P) (k : ℕ) → Bears N F a u k → (a ≡ F.prev u) × (k ≡ charge N F u)
+    bears_only a u k b = elim b.how [
+      | inl i ↦
+          let f : F.used u ≡ false = ap F.used i.1 ∙ i.0 in
+          (sym i.1 ∙ sym (h.idle u b.to f), i.2 ∙ sym (cond-false (F.used u) (N.cost (F.prev u) u) 0 f))
+      | inr g ↦
+          let t = h.goes a u g.0 in
+          (sym t.2, g.1 ∙ ap (λ p. N.cost p u) (sym t.2) ∙ sym (cond-true (F.used u) (N.cost (F.prev u) u) 0 t.1))
+    ]

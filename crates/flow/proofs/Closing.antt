@@ -1,0 +1,46 @@
+-- When nothing that counts waits, the raised labels fit the flow, and the marks tell their reasons. Assumes nothing.
+use Rattle.std.proofs.Common.{ℕ, ◌+◌, ◌≤◌, ◌⊎◌, inl, inr, arith}
+use Rattle.std.proofs.lemmas.Bool.{cases_Bool, cases_eq}
+use Rattle.flow.specs.Nets.{Net, Flow, Bears, Reaches}
+use Rattle.flow.specs.Fits.{Labels, Fits, NoHole}
+use Rattle.flow.specs.Seeks.{Marks, Seeking, Resting, raised}
+use Rattle.flow.specs.Walks.{Settled}
+
+module _ {P : Type 0} (N : Net P) (F : Flow P) (L : Labels P) (W : ℕ) (Entered : P → Type 0) (h : Fits N F L NoHole)
+    (M : Marks P) (s : Seeking N F L W Entered M) (all : (u : P) → N.First u → Entered u) (r : Resting N L M) where
+  -- a place has been scanned, or its label on trial is at least the rise above its label
+  either : (a u : P) (k : ℕ) → Bears N F a u k →
+      ((w : P) (c : ℕ) → Reaches N a w c → M.label w + k ≤ M.label u + c) ⊎ (L.into u + M.rise ≤ M.label u)
+  either a u k b = elim (cases_eq (M.stamp u) 0) [
+    | inl z ↦ inr (omega (arith, s.unseen a u k b z, h.labels.low u b.to, s.cap))
+    | inr n ↦ elim (cases_Bool (M.waits u)) [
+      | inl t ↦ inr (r u b.to t)
+      | inr f ↦ inl (s.quiet a u k b (omega arith) f)
+    ]
+  ]
+
+  pub closed : Settled N F (raised L M) W M
+  closed = record {
+    fits = record {
+      flow = h.flow;
+      labels = record {
+        entry = λ p o f. omega (arith, s.entered p o (all p f));
+        entered = λ p o f t n. omega (arith, h.labels.entered p o f t n, s.above p o, s.entered p o (all p f));
+        along = λ a u k b w c reach. elim (either a u k b) [
+          | inl quiet ↦ omega (arith, quiet w c reach, h.labels.along a u k b w c reach)
+          | inr high ↦ omega (arith, h.labels.along a u k b w c reach)
+        ];
+        last = λ p o l f. omega (arith, s.bound p o l f, h.labels.last p o l f);
+        low = λ p o. omega (arith, h.labels.low p o);
+      };
+    };
+    above = λ u o. omega arith;
+    caused = s.caused;
+    fresh = s.fresh;
+    ready = λ room. let t = s.last room in record {
+      usable = t.usable;
+      last = t.last;
+      unused = t.unused;
+      reached = (t.seen, omega (arith, t.is));
+    };
+  }

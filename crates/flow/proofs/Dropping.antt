@@ -1,0 +1,64 @@
+-- The hole w is dropped: the hole moves on to v. Assumes nothing.
+use Rattle.std.proofs.Common.{◌≡◌, ℕ, ◌+◌, true, ◌⊎◌, sym, refl, ap, ◌∙◌, subst, inl, inr, arith}
+use Rattle.std.proofs.lemmas.Bool.{both_ways}
+use Rattle.flow.specs.Nets.{Net, Lawful, Flow, Goes, Bears, Reaches}
+use Rattle.flow.specs.Fits.{Labels, Fits}
+use Rattle.flow.specs.Moves.{Dropped}
+
+module _ {P : Type 0} (N : Net P) (law : Lawful N) (G H : Flow P) (L : Labels P) (w : P) (h : Fits N G L (λ p. p ≡ w))
+    (v : P) (g : Goes N G w v) (first : N.First w → ⊥) (is : L.into w + N.cost w v ≡ L.into v) (m : Dropped G H w) where
+  not_w : (q : P) → H.used q ≡ true → q ≡ w → ⊥
+  not_w q t e = both_ways (H.used w) m.used (sym (ap H.used e) ∙ t)
+
+  back : (p q : P) → Goes N H p q → (p ≡ w → ⊥) × Goes N G p q
+  back p q d =
+      let n = not_w p d.used in
+      (n, record { usable = d.usable; used = sym (m.used_else p n) ∙ d.used; not_last = d.not_last; to = sym (m.next p) ∙ d.to })
+
+  bears_back : (p y : P) (j : ℕ) → Bears N H p y j → ((p ≡ w) × (y ≡ w) × (j ≡ 0)) ⊎ Bears N G p y j
+  bears_back p y j d = elim d.how [
+    | inl i ↦ elim (law.same_or_not p w) [
+      | inl e ↦ inl (e, i.1 ∙ e, i.2)
+      | inr n ↦ inr (record { from = d.from; to = d.to; how = inl (sym (m.used_else p n) ∙ i.0, i.1, i.2) })
+    ]
+    | inr f ↦ inr (record { from = d.from; to = d.to; how = inr ((back p y f.0).1, f.1) })
+  ]
+
+  pub drop_used : H.used v ≡ true
+  drop_used = let t = h.flow.goes w v g in m.used_else v t.3 ∙ t.1
+
+  pub drop_fits : Fits N H L (λ p. p ≡ v)
+  drop_fits = record {
+    flow = record {
+      goes = λ p q d.
+          let o = back p q d in
+          let t = h.flow.goes p q o.1 in
+          (t.0, m.used_else q t.3 ∙ t.1, m.prev_else q t.3 ∙ t.2, λ e. o.0 (sym t.2 ∙ ap G.prev e ∙ (h.flow.goes w v g).2));
+      comes = λ q o t nf n.
+          let nw = not_w q t in
+          let d = h.flow.comes q o (sym (m.used_else q nw) ∙ t) nf nw in
+          let np : G.prev q ≡ w → ⊥ = λ e. n (sym d.to ∙ ap G.next e ∙ g.to) in
+          subst (λ z. Goes N H z q) (sym (m.prev_else q nw))
+          (record { usable = d.usable; used = m.used_else (G.prev q) np ∙ d.used; not_last = d.not_last; to = m.next (G.prev q) ∙ d.to });
+      idle = λ q o f. elim (law.same_or_not q w) [
+        | inl e ↦ subst (λ z. H.prev z ≡ z) (sym e) m.prev
+        | inr n ↦ m.prev_else q n ∙ h.flow.idle q o (sym (m.used_else q n) ∙ f)
+      ];
+    };
+    labels = record {
+      entry = h.labels.entry;
+      entered = λ p o f t n. let nw = not_w p t in h.labels.entered p o f (sym (m.used_else p nw) ∙ t) nw;
+      along = λ p y j d z c reach. elim (bears_back p y j d) [
+        | inl e ↦
+            let up = h.labels.along w v (N.cost w v) (record { from = g.usable; to = law.to (h.flow.goes w v g).0; how = inr (g, refl) }) z c
+            (subst (λ q. Reaches N q z c) e.0 reach) in
+            omega (arith, ap L.into e.1, e.2)
+        | inr o ↦ h.labels.along p y j o z c reach
+      ];
+      last = λ p o l f. elim (law.same_or_not p w) [
+        | inl e ↦ absurd (g.not_last (subst N.Last e l))
+        | inr n ↦ h.labels.last p o l (sym (m.used_else p n) ∙ f)
+      ];
+      low = h.labels.low;
+    };
+  }

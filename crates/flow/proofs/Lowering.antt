@@ -1,0 +1,143 @@
+-- A label on trial is lowered, and what is known of the labels stays. Assumes nothing.
+use Rattle.std.proofs.Common.{◌≡◌, ℕ, ◌+◌, ◌<◌, ◌≤◌, true, sym, ap, ◌∙◌, subst, inl, inr, arith}
+use Rattle.std.proofs.lemmas.Bool.{both_ways}
+use Rattle.flow.specs.Nets.{Net, Lawful, Flow, Bears, Reaches}
+use Rattle.flow.specs.Fits.{Labels, Fits, NoHole}
+use Rattle.flow.specs.Seeks.{Why, Marks, Cause, Tells, Seeking, Offer, Lowers}
+
+module _ {P : Type 0} (N : Net P) (law : Lawful N) (F : Flow P) (L : Labels P) (W : ℕ) (Entered : P → Type 0) (h : Fits N F L NoHole)
+    (M : Marks P) (s : Seeking N F L W Entered M) (w : P) (v : ℕ) (y : Why P) (offer : Offer N F M w v y) where
+  pub offer_usable : N.Usable w
+  offer_usable = elim offer [
+    | Offer.by_entry r o f free is ↦ o
+    | Offer.by_place a u k c r b reach seen is pin ↦ elim reach [ inl l ↦ law.to l.0 | inr e ↦ subst N.Usable (sym e.0) b.from ]
+  ]
+
+  pub offer_high : L.into w ≤ v
+  offer_high = elim offer [
+    | Offer.by_entry r o f free is ↦ omega (arith, h.labels.entry w o f)
+    | Offer.by_place a u k c r b reach seen is pin ↦ omega (arith, s.above u b.to, h.labels.along a u k b w c reach)
+  ]
+
+  -- no label is lowered by itself
+  unlike : (a u : P) (k c : ℕ) → Bears N F a u k → Reaches N a w c → v + k ≡ M.label u + c → v < M.label w → u ≡ w → ⊥
+  unlike a u k c b reach is low e = elim b.how [
+    | inl i ↦ elim reach [
+      | inl l ↦ law.apart l.0 (sym i.1 ∙ e)
+      | inr r ↦ omega (arith, ap M.label e)
+    ]
+    | inr g ↦ elim reach [
+      | inl l ↦ omega (arith, ap M.label e, ap (N.cost a) e, l.1, g.1)
+      | inr r ↦ law.apart (h.flow.goes a u g.0).0 (sym (e ∙ r.0))
+    ]
+  ]
+
+  module _ (K : Marks P) (l : Lowers N F L M K w v y) (low : v < M.label w) where
+    falls : (x : P) → K.label x ≤ M.label x
+    falls x = elim (law.same_or_not x w) [
+      | inl e ↦ omega (arith, ap K.label e, ap M.label e, l.label)
+      | inr n ↦ omega (arith, (l.others x n).label)
+    ]
+
+    stamped : (x : P) → 0 < M.stamp x → 0 < K.stamp x
+    stamped x t = elim (law.same_or_not x w) [
+      | inl e ↦ omega (arith, ap K.stamp e, l.stamp)
+      | inr n ↦ omega (arith, (l.others x n).stamp)
+    ]
+
+    -- the label above w has a cause
+    because : Cause N F K w
+    because = elim offer [
+      | Offer.by_entry r o f free is ↦ Cause.by_entry (l.why ∙ r) f (omega (arith, l.label))
+      | Offer.by_place a u k c r b reach seen is pin ↦
+          let same = l.others u (unlike a u k c b reach is low) in
+          Cause.by_place a u k c (l.why ∙ r) b reach (omega (arith, same.stamp)) (omega (arith, l.label, same.label))
+          (λ e. omega (arith, l.stamp, same.stamp, s.clocked u b.to))
+    ]
+
+    -- and any other the one that it had
+    still : (x : P) → (x ≡ w → ⊥) → Cause N F M x → Cause N F K x
+    still x n (Cause.by_entry r f e) = Cause.by_entry ((l.others x n).why ∙ r) f (omega (arith, (l.others x n).label))
+    still x n (Cause.by_place a u k c r b reach seen slack later) =
+        let same = l.others x n in
+        Cause.by_place a u k c (same.why ∙ r) b reach (stamped u seen) (omega (arith, same.label, falls u))
+        (λ e. elim (law.same_or_not u w) [
+          | inl i ↦ absurd (omega (arith, ap K.label i, ap M.label i, l.label, same.label))
+          | inr m ↦
+              let was = l.others u m in
+              let t : M.stamp u < M.stamp x = later (omega (arith, was.label, same.label)) in
+              omega (arith, was.stamp, same.stamp)
+        ])
+
+    fresh : N.First w → F.used w ≡ true → ⊥
+    fresh f t = elim offer [
+      | Offer.by_entry r o g free is ↦ both_ways (F.used w) free t
+      | Offer.by_place a u k c r b reach seen is pin ↦ omega (arith, pin f, offer_high, h.labels.entered w offer_usable f t (λ x. x))
+    ]
+
+    tells : L.exit + K.rise < W → Tells N F L K K.last
+    tells room = elim l.closer [
+      | inl r ↦ subst (Tells N F L K) (sym r.4) (record {
+        usable = offer_usable;
+        last = r.0;
+        unused = r.1;
+        seen = omega (arith, l.stamp);
+        is = omega (arith, l.label, r.3);
+      })
+      | inr r ↦
+          let t = s.last (omega (arith, r.1)) in
+          let n : M.last ≡ w → ⊥ = λ e. omega (arith, ap M.label e, ap L.into e, t.is, r.0 (subst N.Last e t.last) (sym (ap F.used e) ∙ t.unused)) in
+          let same = l.others M.last n in
+          subst (Tells N F L K) (sym r.2) (record {
+            usable = t.usable;
+            last = t.last;
+            unused = t.unused;
+            seen = omega (arith, same.stamp, t.seen);
+            is = omega (arith, same.label, t.is, r.1);
+          })
+    ]
+
+    pub lowered : Seeking N F L W Entered K
+    lowered = record {
+      above = λ u o. elim (law.same_or_not u w) [
+        | inl e ↦ omega (arith, ap K.label e, ap L.into e, l.label, offer_high)
+        | inr n ↦ omega (arith, (l.others u n).label, s.above u o)
+      ];
+      entered = λ u o e. omega (arith, falls u, s.entered u o e);
+      unseen = λ a u k b z.
+          let n : u ≡ w → ⊥ = λ e. omega (arith, ap K.stamp e, l.stamp) in
+          let same = l.others u n in
+          omega (arith, s.unseen a u k b (sym same.stamp ∙ z), same.label);
+      quiet = λ a u k b seen q x c reach.
+          let n : u ≡ w → ⊥ = λ e. both_ways (K.waits w) (sym (ap K.waits e) ∙ q) l.waits in
+          let same = l.others u n in
+          omega (arith, s.quiet a u k b (omega (arith, same.stamp)) (sym same.waits ∙ q) x c reach, falls x, same.label);
+      caused = λ x o t. elim (law.same_or_not x w) [
+        | inl e ↦ subst (Cause N F K) (sym e) because
+        | inr n ↦ still x n (s.caused x o (omega (arith, (l.others x n).stamp)))
+      ];
+      waiting = λ u o q. elim (law.same_or_not u w) [
+        | inl e ↦ omega (arith, ap K.stamp e, l.stamp)
+        | inr n ↦ let same = l.others u n in omega (arith, same.stamp, s.waiting u o (sym same.waits ∙ q))
+      ];
+      fresh = λ x o f t. elim (law.same_or_not x w) [
+        | inl e ↦ absurd (fresh (subst N.First e f) (sym (ap F.used e) ∙ t))
+        | inr n ↦ (l.others x n).stamp ∙ s.fresh x o f t
+      ];
+      clocked = λ u o. elim (law.same_or_not u w) [
+        | inl e ↦ omega (arith, ap K.stamp e, l.stamp, l.clock)
+        | inr n ↦ omega (arith, (l.others u n).stamp, l.clock, s.clocked u o)
+      ];
+      cap = elim l.closer [ inl r ↦ omega (arith, r.2, r.3, s.cap) | inr r ↦ omega (arith, r.1, s.cap) ];
+      bound = λ x o m f. elim (law.same_or_not x w) [
+        | inl e ↦ elim l.closer [
+          | inl r ↦ omega (arith, ap K.label e, ap L.into e, l.label, r.3)
+          | inr r ↦ omega (arith, ap K.label e, ap L.into e, l.label, r.1, r.0 (subst N.Last e m) (sym (ap F.used e) ∙ f))
+        ]
+        | inr n ↦ elim l.closer [
+          | inl r ↦ omega (arith, (l.others x n).label, s.bound x o m f, r.2, r.3)
+          | inr r ↦ omega (arith, (l.others x n).label, s.bound x o m f, r.1)
+        ]
+      ];
+      last = tells;
+    }

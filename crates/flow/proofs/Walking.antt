@@ -1,0 +1,144 @@
+-- The walk: each of its moves leads to a hole of an earlier stamp. Assumes nothing.
+use Rattle.std.proofs.Common.{◌≡◌, ℕ, ◌+◌, ◌<◌, cond, sym, refl, ap, ◌∙◌, subst, inl, inr, arith}
+use Rattle.std.proofs.lemmas.Bool.{cond-true, cond-false}
+use Rattle.flow.specs.Nets.{Net, Lawful, Flow, Goes, Bears, Reaches}
+use Rattle.flow.specs.Fits.{Labels, Fits, NoHole}
+use Rattle.flow.specs.Moves.{Opened, Linked, Dropped}
+use Rattle.flow.specs.Seeks.{source, below, Marks, Cause}
+use Rattle.flow.specs.Walks.{Reached, Ready, Settled, Walk}
+use Rattle.flow.proofs.Bearing.{bears_idle, bears_one}
+use Rattle.flow.proofs.Opening as Opening
+use Rattle.flow.proofs.Linking as Linking
+use Rattle.flow.proofs.Dropping as Dropping
+
+module _ {P : Type 0} (N : Net P) (law : Lawful N) (F : Flow P) (L : Labels P) (W : ℕ) (M : Marks P) (s : Settled N F L W M) where
+  -- The walk begins: a last place is opened.
+  pub opens : (G : Flow P) (e : P) → Ready N F L M e → Opened F G e → Walk N F L M G e
+  opens G e r m = record {
+    usable = r.usable;
+    used = m.used;
+    fits = Opening.open_fits N law F G L e s.fits r.last r.unused m;
+    reached = r.reached;
+    same = λ a u k b early.
+        let n : a ≡ e → ⊥ = λ i.
+        let one = bears_one N F a u a k 0 b (bears_idle N F a b.from (ap F.used i ∙ r.unused)) in
+        omega (arith, ap M.stamp one.0, ap M.stamp i) in
+        (m.used_else a n, m.next a);
+  }
+
+  -- the label above w comes from the one below a, which u bears, and is just that
+  record From (w a : P) : Type 0 where
+    u : P
+    k : ℕ
+    c : ℕ
+    bears : Bears N F a u k
+    reaches : Reaches N a w c
+    is : L.into w + k ≡ L.into u + c
+    early : M.stamp u < M.stamp w
+    reached : Reached L M u
+
+  unsaid : (a : P) → source ≡ below a → ⊥
+  unsaid a e = cc
+
+  says_one : (a b : P) → below a ≡ below b → a ≡ b
+  says_one a b e = cc
+
+  comes_from : (w a : P) → N.Usable w → Reached L M w → M.why w ≡ below a → From w a
+  comes_from w a o reached says = elim (s.caused w o reached.0) [
+    | Cause.by_entry r f e ↦ absurd (unsaid a (sym r ∙ says))
+    | Cause.by_place b u k c r bears reaches seen slack later ↦
+        let up = s.fits.labels.along b u k bears w c reaches in
+        let low = s.above u bears.to in
+        let near = reached.1 in
+        subst (From w) (says_one b a (sym r ∙ says)) (record {
+          u = u;
+          k = k;
+          c = c;
+          bears = bears;
+          reaches = reaches;
+          is = omega arith;
+          early = later (omega arith);
+          reached = (seen, omega arith);
+        })
+  ]
+
+  module _ (G : Flow P) (w : P) (walk : Walk N F L M G w) where
+    -- The walk ends at the entry.
+    pub ends : M.why w ≡ source → Fits N G L NoHole
+    ends says = elim (s.caused w walk.usable walk.reached.0) [
+      | Cause.by_entry r f e ↦ Opening.end_fits N law G L w walk.fits f (omega (arith, walk.reached.1, s.fits.labels.entry w walk.usable f))
+      | Cause.by_place a u k c r b reach seen slack later ↦ absurd (unsaid a (sym says ∙ r))
+    ]
+
+    module _ (a : P) (says : M.why w ≡ below a) where
+      abbrev from : From w a
+      from = comes_from w a walk.usable walk.reached says
+
+      now : (G.used a ≡ F.used a) × (G.next a ≡ F.next a)
+      now = walk.same a from.u from.k from.bears from.early
+
+      -- the label below a is borne as it was
+      bears_now : Bears N G a from.u from.k
+      bears_now = record {
+        from = from.bears.from;
+        to = from.bears.to;
+        how = elim from.bears.how [
+          | inl i ↦ inl (now.0 ∙ i.0, i.1, i.2)
+          | inr g ↦ inr (record { usable = g.0.usable; used = now.0 ∙ g.0.used; not_last = g.0.not_last; to = now.1 ∙ g.0.to }, g.1)
+        ];
+      }
+
+      -- what bears a label of an earlier stamp than u does not bear that one
+      apart : (p x : P) (k : ℕ) → Bears N F p x k → M.stamp x < M.stamp from.u → p ≡ a → ⊥
+      apart p x k b early i =
+          let one = bears_one N F a from.u x from.k k from.bears (subst (λ z. Bears N F z x k) i b) in
+          omega (arith, ap M.stamp one.0)
+
+      module _ (H : Flow P) where
+        -- A place a is linked to the hole.
+        pub links : (a ≡ w → ⊥) → Linked G H a w → (let x = cond (G.used a) (G.next a) a in Walk N F L M H x × (M.stamp x < M.stamp w))
+        links n m =
+            let link : N.Link a w × (from.c ≡ N.cost a w) = elim from.reaches [ inl l ↦ l | inr r ↦ absurd (n (sym r.0)) ] in
+            let is : L.into w + from.k ≡ L.into from.u + N.cost a w = omega (arith, from.is, link.1) in
+            let to : from.u ≡ cond (G.used a) (G.next a) a = elim bears_now.how [
+              | inl i ↦ i.1 ∙ sym (cond-false (G.used a) (G.next a) a i.0)
+              | inr g ↦ sym g.0.to ∙ sym (cond-true (G.used a) (G.next a) a g.0.used)
+            ] in
+            subst (λ z. Walk N F L M H z × (M.stamp z < M.stamp w)) to (
+              record {
+                usable = from.bears.to;
+                used = Linking.link_used N law G H L w walk.fits walk.used a from.u from.k link.0 bears_now is m;
+                fits = Linking.link_fits N law G H L w walk.fits walk.used a from.u from.k link.0 bears_now is m;
+                reached = from.reached;
+                same = λ p x k b early.
+                    let n = apart p x k b early in
+                    let was = walk.same p x k b (omega (arith, from.early)) in
+                    (m.used_else p n ∙ was.0, m.next_else p n ∙ was.1);
+              },
+              from.early,
+            )
+
+    -- The hole is dropped.
+    pub drops : (H : Flow P) → M.why w ≡ below w → Dropped G H w → Walk N F L M H (G.next w) × (M.stamp (G.next w) < M.stamp w)
+    drops H says m =
+        let f = from w says in
+        let goes : Goes N G w f.u × (f.k ≡ N.cost w f.u) = elim (bears_now w says).how [
+          | inl i ↦ absurd (omega (arith, ap M.stamp i.1, f.early))
+          | inr g ↦ g
+        ] in
+        let here : f.c ≡ 0 = elim f.reaches [ inl l ↦ absurd (law.apart l.0 refl) | inr r ↦ r.1 ] in
+        let first : N.First w → ⊥ = λ p. omega (arith, s.fresh w walk.usable p (sym (now w says).0 ∙ goes.0.used), walk.reached.0) in
+        let is : L.into w + N.cost w f.u ≡ L.into f.u = omega (arith, f.is, goes.1, here) in
+        subst (λ z. Walk N F L M H z × (M.stamp z < M.stamp w)) (sym goes.0.to) (
+          record {
+            usable = f.bears.to;
+            used = Dropping.drop_used N law G H L w walk.fits f.u goes.0 first is m;
+            fits = Dropping.drop_fits N law G H L w walk.fits f.u goes.0 first is m;
+            reached = f.reached;
+            same = λ p x k b early.
+                let n = apart w says p x k b early in
+                let was = walk.same p x k b (omega (arith, f.early)) in
+                (m.used_else p n ∙ was.0, m.next p ∙ was.1);
+          },
+          f.early,
+        )

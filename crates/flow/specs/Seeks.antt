@@ -1,0 +1,95 @@
+-- How labels are settled: labels on trial fall from place to place, each for a reason, until none that counts can fall further.
+-- Assumes nothing.
+use Rattle.std.specs.Prelude.{◌≡◌, ℕ, ◌+◌, ◌<◌, ◌≤◌, min, Bool, true, false, ◌⊎◌}
+use Rattle.flow.specs.Nets.{Net, Flow, Bears, Reaches}
+use Rattle.flow.specs.Fits.{Labels}
+
+-- why a label is what it is: by the entry, or by the label below a place
+pub data Why (P : Type 0) : Type 0 where
+  source : Why P
+  below : P → Why P
+
+-- labels on trial, which places wait to be scanned, when and why each label was last lowered; how far the exit may rise, and the
+-- last place that says so
+pub record Marks (P : Type 0) : Type 0 where
+  pub label : P → ℕ
+  pub waits : P → Bool
+  pub stamp : P → ℕ
+  pub why : P → Why P
+  pub clock : ℕ
+  pub rise : ℕ
+  pub last : P
+
+-- why the label on trial above w is no lower; what it comes from was lowered before it, where it is just that
+pub data Cause {P : Type 0} (N : Net P) (F : Flow P) (M : Marks P) (w : P) : Type 0 where
+  by_entry : M.why w ≡ source → N.First w → N.entry w ≤ M.label w → Cause N F M w
+  by_place : (a u : P) (k c : ℕ) → M.why w ≡ below a → Bears N F a u k → Reaches N a w c → 0 < M.stamp u →
+      M.label u + c ≤ M.label w + k → (M.label u + c ≡ M.label w + k → M.stamp u < M.stamp w) → Cause N F M w
+
+-- the place p says how far the exit may rise
+pub record Tells {P : Type 0} (N : Net P) (F : Flow P) (L : Labels P) (M : Marks P) (p : P) : Type 0 where
+  pub usable : N.Usable p
+  pub last : N.Last p
+  pub unused : F.used p ≡ false
+  pub seen : 0 < M.stamp p
+  pub is : M.label p ≡ L.into p + M.rise
+
+-- what holds while labels fall; places that are not seen have the stamp 0, W is the most that the exit may be, and first places
+-- are entered one after another
+pub record Seeking {P : Type 0} (N : Net P) (F : Flow P) (L : Labels P) (W : ℕ) (Entered : P → Type 0) (M : Marks P) : Type 0 where
+  pub above : (u : P) → N.Usable u → L.into u ≤ M.label u
+  pub entered : (u : P) → N.Usable u → Entered u → M.label u ≤ N.entry u
+  pub unseen : (a u : P) (k : ℕ) → Bears N F a u k → M.stamp u ≡ 0 → W ≤ M.label u
+  pub quiet : (a u : P) (k : ℕ) → Bears N F a u k → 0 < M.stamp u → M.waits u ≡ false →
+      (w : P) (c : ℕ) → Reaches N a w c → M.label w + k ≤ M.label u + c
+  pub caused : (w : P) → N.Usable w → 0 < M.stamp w → Cause N F M w
+  pub waiting : (u : P) → N.Usable u → M.waits u ≡ true → 0 < M.stamp u
+  pub fresh : (w : P) → N.Usable w → N.First w → F.used w ≡ true → M.stamp w ≡ 0
+  pub clocked : (u : P) → N.Usable u → M.stamp u ≤ M.clock
+  pub cap : L.exit + M.rise ≤ W
+  pub bound : (w : P) → N.Usable w → N.Last w → F.used w ≡ false → L.into w + M.rise ≤ M.label w
+  pub last : L.exit + M.rise < W → Tells N F L M M.last
+
+-- nothing is lowered yet
+pub record Blank {P : Type 0} (N : Net P) (L : Labels P) (W : ℕ) (M : Marks P) : Type 0 where
+  pub label : (u : P) → N.Usable u → M.label u ≡ W
+  pub waits : (u : P) → N.Usable u → M.waits u ≡ false
+  pub stamp : (u : P) → N.Usable u → M.stamp u ≡ 0
+  pub rise : L.exit + M.rise ≡ W
+
+-- the label above w may be v, for the reason y
+pub data Offer {P : Type 0} (N : Net P) (F : Flow P) (M : Marks P) (w : P) (v : ℕ) (y : Why P) : Type 0 where
+  by_entry : y ≡ source → N.Usable w → N.First w → F.used w ≡ false → v ≡ N.entry w → Offer N F M w v y
+  by_place : (a u : P) (k c : ℕ) → y ≡ below a → Bears N F a u k → Reaches N a w c → 0 < M.stamp u → v + k ≡ M.label u + c →
+      (N.First w → M.label w ≤ N.entry w) → Offer N F M w v y
+
+-- how far the exit may rise, and the place that says so, once the label above w is lowered to v: before, rise and last; then, to and at
+abbrev pub Closer : {P : Type 0} → Net P → Flow P → Labels P → P → ℕ → (rise : ℕ) → P → (to : ℕ) → P → Type 0
+Closer N F L w v rise last to at =
+    (N.Last w × (F.used w ≡ false) × (v < L.into w + rise) × (L.into w + to ≡ v) × (at ≡ w)) ⊎
+    ((N.Last w → F.used w ≡ false → L.into w + rise ≤ v) × (to ≡ rise) × (at ≡ last))
+
+-- the marks of x are as they were
+pub record Alike {P : Type 0} (M K : Marks P) (x : P) : Type 0 where
+  pub label : K.label x ≡ M.label x
+  pub waits : K.waits x ≡ M.waits x
+  pub stamp : K.stamp x ≡ M.stamp x
+  pub why : K.why x ≡ M.why x
+
+-- the marks M are K once the label on trial above w is lowered to v, for the reason y
+pub record Lowers {P : Type 0} (N : Net P) (F : Flow P) (L : Labels P) (M K : Marks P) (w : P) (v : ℕ) (y : Why P) : Type 0 where
+  pub label : K.label w ≡ v
+  pub waits : K.waits w ≡ true
+  pub stamp : K.stamp w ≡ M.clock + 1
+  pub why : K.why w ≡ y
+  pub clock : K.clock ≡ M.clock + 1
+  pub closer : Closer N F L w v M.rise M.last K.rise K.last
+  pub others : (x : P) → (x ≡ w → ⊥) → Alike M K x
+
+-- no place waits whose label on trial is less than the rise above its label
+abbrev pub Resting : {P : Type 0} → Net P → Labels P → Marks P → Type 0
+Resting N L M = (u : _) → N.Usable u → M.waits u ≡ true → L.into u + M.rise ≤ M.label u
+
+-- the labels, raised as far as the rise, but where the label on trial is lower
+abbrev pub raised : {P : Type 0} → Labels P → Marks P → Labels P
+raised L M = record { into = λ p. min (M.label p) (L.into p + M.rise); exit = L.exit + M.rise }
