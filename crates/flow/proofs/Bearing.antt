@@ -1,7 +1,7 @@
 -- Which label bears the label below a place. Assumes nothing.
 use Rattle.std.proofs.Common.{◌≡◌, ℕ, ◌+◌, ◌≤◌, true, false, sym, refl, ap, ◌∙◌, subst, inl, inr, arith}
-use Rattle.std.proofs.lemmas.Bool.{both_ways, cases_Bool, cond-true, cond-false}
-use Rattle.flow.specs.Nets.{Net, Lawful, Flow, Goes, Bears, charge}
+use Rattle.std.proofs.lemmas.Bool.{both_ways, cases_Bool}
+use Rattle.flow.specs.Nets.{Net, Lawful, Flow, Goes, Bears}
 use Rattle.flow.specs.Fits.{Conserved, Labels, Labelled}
 
 module _ {P : Type 0} (N : Net P) (F : Flow P) where
@@ -27,29 +27,21 @@ module _ {P : Type 0} (N : Net P) (F : Flow P) where
 
   module _ (law : Lawful N) (Hole : P → Type 0) (h : Conserved N F Hole) where
     pub bears-goes : (a u : P) → Goes N F a u → Bears N F a u (N.cost a u)
-    bears-goes a u g = record { from = g.usable; to = law.to (h.goes a u g).0; how = inr (g, refl) }
+    bears-goes a u g = record { from = g.usable; to = law.to (h.goes a u g).link; how = inr (g, refl) }
 
     -- where the flow comes from
-    pub bears_prev : (u : P) → N.Usable u → (N.First u → F.used u ≡ true → ⊥) → (Hole u → ⊥) → Bears N F (F.prev u) u (charge N F u)
+    pub bears_prev : (u : P) → N.Usable u → (N.First u → F.used u ≡ true → ⊥) → (Hole u → ⊥) → Bears N F (F.prev u) u (F.charge u)
     bears_prev u o first hole = elim (cases_Bool (F.used u)) [
       | inl t ↦
           let g = h.comes u o t (λ f. first f t) hole in
-          record { from = g.usable; to = o; how = inr (g, cond-true (F.used u) (N.cost (F.prev u) u) 0 t) }
+          record { from = g.usable; to = o; how = inr (g, (h.goes (F.prev u) u g).charge) }
       | inr f ↦
           let is = h.idle u o f in
-          record {
-            from = subst N.Usable (sym is) o;
-            to = o;
-            how = inl (ap F.used is ∙ f, sym is, cond-false (F.used u) (N.cost (F.prev u) u) 0 f);
-          }
+          record { from = subst N.Usable (sym is.0) o; to = o; how = inl (ap F.used is.0 ∙ f, sym is.0, is.1) }
     ]
 
-    pub bears_only : (a u : P) (k : ℕ) → Bears N F a u k → (a ≡ F.prev u) × (k ≡ charge N F u)
+    pub bears_only : (a u : P) (k : ℕ) → Bears N F a u k → (a ≡ F.prev u) × (k ≡ F.charge u)
     bears_only a u k b = elim b.how [
-      | inl i ↦
-          let f : F.used u ≡ false = ap F.used i.1 ∙ i.0 in
-          (sym i.1 ∙ sym (h.idle u b.to f), i.2 ∙ sym (cond-false (F.used u) (N.cost (F.prev u) u) 0 f))
-      | inr g ↦
-          let t = h.goes a u g.0 in
-          (sym t.2, g.1 ∙ ap (λ p. N.cost p u) (sym t.2) ∙ sym (cond-true (F.used u) (N.cost (F.prev u) u) 0 t.1))
+      | inl i ↦ let is = h.idle u b.to (ap F.used i.1 ∙ i.0) in (sym i.1 ∙ sym is.0, i.2 ∙ sym is.1)
+      | inr g ↦ let t = h.goes a u g.0 in (sym t.prev, g.1 ∙ sym t.charge)
     ]

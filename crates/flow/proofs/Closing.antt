@@ -1,22 +1,19 @@
 -- When nothing that counts waits, the raised labels fit the flow, and the marks tell their reasons. Assumes nothing.
 use Rattle.std.proofs.Common.{ℕ, ◌+◌, ◌≤◌, ◌⊎◌, inl, inr, arith}
-use Rattle.std.proofs.lemmas.Bool.{cases_Bool, cases_eq}
+use Rattle.std.proofs.lemmas.Bool.{cases_Bool, cases_lt}
 use Rattle.flow.specs.Nets.{Net, Flow, Bears, Reaches}
 use Rattle.flow.specs.Fits.{Labels, Fits, NoHole}
-use Rattle.flow.specs.Seeks.{Marks, Seeking, Resting, raised}
+use Rattle.flow.specs.Seeks.{Marks, Seeking, Entered, Resting, raised}
 use Rattle.flow.specs.Walks.{Settled}
 
-module _ {P : Type 0} (N : Net P) (F : Flow P) (L : Labels P) (W : ℕ) (Entered : P → Type 0) (h : Fits N F L NoHole)
-    (M : Marks P) (s : Seeking N F L W Entered M) (all : (u : P) → N.First u → Entered u) (r : Resting N L M) where
+module _ {P : Type 0} (N : Net P) (F : Flow P) (L : Labels P) (W : ℕ) (h : Fits N F L NoHole)
+    (M : Marks P) (s : Seeking N F L W M) (entered : Entered N M) (r : Resting N L M) where
   -- a place has been scanned, or its label on trial is at least the rise above its label
   either : (a u : P) (k : ℕ) → Bears N F a u k →
       ((w : P) (c : ℕ) → Reaches N a w c → M.label w + k ≤ M.label u + c) ⊎ (L.into u + M.rise ≤ M.label u)
-  either a u k b = elim (cases_eq (M.stamp u) 0) [
-    | inl z ↦ inr (omega (arith, s.unseen a u k b z, h.labels.low u b.to, s.cap))
-    | inr n ↦ elim (cases_Bool (M.waits u)) [
-      | inl t ↦ inr (r u b.to t)
-      | inr f ↦ inl (s.quiet a u k b (omega arith) f)
-    ]
+  either a u k b = elim (cases_lt (M.label u) W) [
+    | inl m ↦ elim (cases_Bool (M.waits u)) [ inl t ↦ inr (r u b.to t) | inr f ↦ inl (s.quiet a u k b m f) ]
+    | inr m ↦ inr (omega (arith, h.labels.low u b.to, s.cap))
   ]
 
   pub closed : Settled N F (raised L M) W M
@@ -24,8 +21,8 @@ module _ {P : Type 0} (N : Net P) (F : Flow P) (L : Labels P) (W : ℕ) (Entered
     fits = record {
       flow = h.flow;
       labels = record {
-        entry = λ p o f. omega (arith, s.entered p o (all p f));
-        entered = λ p o f t n. omega (arith, h.labels.entered p o f t n, s.above p o, s.entered p o (all p f));
+        entry = λ p o f. omega (arith, entered p o f);
+        entered = λ p o f t n. omega (arith, h.labels.entered p o f t n, s.above p o, entered p o f);
         along = λ a u k b w c reach. elim (either a u k b) [
           | inl quiet ↦ omega (arith, quiet w c reach, h.labels.along a u k b w c reach)
           | inr high ↦ omega (arith, h.labels.along a u k b w c reach)
@@ -36,11 +33,10 @@ module _ {P : Type 0} (N : Net P) (F : Flow P) (L : Labels P) (W : ℕ) (Entered
     };
     above = λ u o. omega arith;
     caused = s.caused;
-    fresh = s.fresh;
     ready = λ room. let t = s.last room in record {
       usable = t.usable;
       last = t.last;
       unused = t.unused;
-      reached = (t.seen, omega (arith, t.is));
+      reached = omega (arith, t.is);
     };
   }

@@ -25,7 +25,7 @@ module _ {P : Type 0} (N : Net P) (law : Lawful N) (G H : Flow P) (L : Labels P)
   ]
 
   pub drop_used : H.used v ≡ true
-  drop_used = let t = h.flow.goes w v g in m.used_else v t.3 ∙ t.1
+  drop_used = let t = h.flow.goes w v g in m.used_else v t.whole ∙ t.used
 
   pub drop_fits : Fits N H L (λ p. p ≡ v)
   drop_fits = record {
@@ -33,7 +33,13 @@ module _ {P : Type 0} (N : Net P) (law : Lawful N) (G H : Flow P) (L : Labels P)
       goes = λ p q d.
           let o = back p q d in
           let t = h.flow.goes p q o.1 in
-          (t.0, m.used_else q t.3 ∙ t.1, m.prev_else q t.3 ∙ t.2, λ e. o.0 (sym t.2 ∙ ap G.prev e ∙ (h.flow.goes w v g).2));
+          record {
+            link = t.link;
+            used = m.used_else q t.whole ∙ t.used;
+            prev = m.prev_else q t.whole ∙ t.prev;
+            charge = m.charge_else q t.whole ∙ t.charge;
+            whole = λ e. o.0 (sym t.prev ∙ ap G.prev e ∙ (h.flow.goes w v g).prev);
+          };
       comes = λ q o t nf n.
           let nw = not_w q t in
           let d = h.flow.comes q o (sym (m.used_else q nw) ∙ t) nf nw in
@@ -41,8 +47,8 @@ module _ {P : Type 0} (N : Net P) (law : Lawful N) (G H : Flow P) (L : Labels P)
           subst (λ z. Goes N H z q) (sym (m.prev_else q nw))
           (record { usable = d.usable; used = m.used_else (G.prev q) np ∙ d.used; not_last = d.not_last; to = m.next (G.prev q) ∙ d.to });
       idle = λ q o f. elim (law.same_or_not q w) [
-        | inl e ↦ subst (λ z. H.prev z ≡ z) (sym e) m.prev
-        | inr n ↦ m.prev_else q n ∙ h.flow.idle q o (sym (m.used_else q n) ∙ f)
+        | inl e ↦ subst (λ z. (H.prev z ≡ z) × (H.charge z ≡ 0)) (sym e) (m.prev, m.charge)
+        | inr n ↦ let is = h.flow.idle q o (sym (m.used_else q n) ∙ f) in (m.prev_else q n ∙ is.0, m.charge_else q n ∙ is.1)
       ];
     };
     labels = record {
@@ -50,7 +56,7 @@ module _ {P : Type 0} (N : Net P) (law : Lawful N) (G H : Flow P) (L : Labels P)
       entered = λ p o f t n. let nw = not_w p t in h.labels.entered p o f (sym (m.used_else p nw) ∙ t) nw;
       along = λ p y j d z c reach. elim (bears_back p y j d) [
         | inl e ↦
-            let up = h.labels.along w v (N.cost w v) (record { from = g.usable; to = law.to (h.flow.goes w v g).0; how = inr (g, refl) }) z c
+            let up = h.labels.along w v (N.cost w v) (record { from = g.usable; to = law.to (h.flow.goes w v g).link; how = inr (g, refl) }) z c
             (subst (λ q. Reaches N q z c) e.0 reach) in
             omega (arith, ap L.into e.1, e.2)
         | inr o ↦ h.labels.along p y j o z c reach

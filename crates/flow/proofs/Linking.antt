@@ -2,11 +2,11 @@
 use Rattle.std.proofs.Common.{◌≡◌, ℕ, ◌+◌, true, false, ◌⊎◌, sym, ap, ◌∙◌, subst, inl, inr, arith}
 use Rattle.std.proofs.lemmas.Bool.{both_ways}
 use Rattle.flow.specs.Nets.{Net, Lawful, Flow, Goes, Bears, Reaches}
-use Rattle.flow.specs.Fits.{Labels, Fits}
+use Rattle.flow.specs.Fits.{Labels, Comes, Fits}
 use Rattle.flow.specs.Moves.{Linked}
 
 module _ {P : Type 0} (N : Net P) (law : Lawful N) (G H : Flow P) (L : Labels P) (w : P) (h : Fits N G L (λ p. p ≡ w)) (here : G.used w ≡ true)
-    (a x : P) (k : ℕ) (link : N.Link a w) (b : Bears N G a x k) (is : L.into w + k ≡ L.into x + N.cost a w) (m : Linked G H a w) where
+    (a x : P) (k : ℕ) (link : N.Link a w) (b : Bears N G a x k) (is : L.into w + k ≡ L.into x + N.cost a w) (m : Linked N G H a w) where
   unlike : (p q : P) → G.used p ≡ false → G.used q ≡ true → p ≡ q → ⊥
   unlike p q f t e = both_ways (G.used p) f (ap G.used e ∙ t)
 
@@ -40,14 +40,14 @@ module _ {P : Type 0} (N : Net P) (law : Lawful N) (G H : Flow P) (L : Labels P)
   -- what else the flow goes on to is not x
   not_x : (p q : P) → (p ≡ a → ⊥) → Goes N G p q → q ≡ x → ⊥
   not_x p q n g e = elim b.how [
-    | inl i ↦ unlike a q i.0 (h.flow.goes p q g).1 (sym (e ∙ i.1))
-    | inr f ↦ n (sym (h.flow.goes p q g).2 ∙ ap G.prev e ∙ (h.flow.goes a x f.0).2)
+    | inl i ↦ unlike a q i.0 (h.flow.goes p q g).used (sym (e ∙ i.1))
+    | inr f ↦ n (sym (h.flow.goes p q g).prev ∙ ap G.prev e ∙ (h.flow.goes a x f.0).prev)
   ]
 
   w_not_x : w ≡ x → ⊥
   w_not_x e = elim b.how [
     | inl i ↦ law.apart link (sym (e ∙ i.1))
-    | inr f ↦ (h.flow.goes a x f.0).3 (sym e)
+    | inr f ↦ (h.flow.goes a x f.0).whole (sym e)
   ]
 
   bears_back : (p y : P) (j : ℕ) → Bears N H p y j → ((p ≡ a) × (y ≡ w) × (j ≡ N.cost a w)) ⊎ Bears N G p y j
@@ -60,16 +60,23 @@ module _ {P : Type 0} (N : Net P) (law : Lawful N) (G H : Flow P) (L : Labels P)
   ]
 
   pub link_used : H.used x ≡ true
-  link_used = elim b.how [ inl i ↦ ap H.used i.1 ∙ m.used | inr g ↦ used_still x (h.flow.goes a x g.0).1 ]
+  link_used = elim b.how [ inl i ↦ ap H.used i.1 ∙ m.used | inr g ↦ used_still x (h.flow.goes a x g.0).used ]
 
   pub link_fits : Fits N H L (λ p. p ≡ x)
   link_fits = record {
     flow = record {
       goes = λ p q g. elim (back p q g) [
         | inl e ↦
-            subst (λ z. N.Link z q × (H.used q ≡ true) × (H.prev q ≡ z) × (q ≡ x → ⊥)) (sym e.0)
-            (subst (λ z. N.Link a z × (H.used z ≡ true) × (H.prev z ≡ a) × (z ≡ x → ⊥)) (sym e.1) (link, used_still w here, m.prev, w_not_x))
-        | inr o ↦ let t = h.flow.goes p q o.1 in (t.0, used_still q t.1, m.prev_else q t.3 ∙ t.2, not_x p q o.0 o.1)
+            subst (λ z. Comes N H (λ v. v ≡ x) z q) (sym e.0)
+            (subst (Comes N H (λ v. v ≡ x) a) (sym e.1)
+            (record { link = link; used = used_still w here; prev = m.prev; charge = m.charge; whole = w_not_x }))
+        | inr o ↦ let t = h.flow.goes p q o.1 in record {
+          link = t.link;
+          used = used_still q t.used;
+          prev = m.prev_else q t.whole ∙ t.prev;
+          charge = m.charge_else q t.whole ∙ t.charge;
+          whole = not_x p q o.0 o.1;
+        }
       ];
       comes = λ q o t first n. elim (law.same_or_not q w) [
         | inl e ↦ subst (λ z. Goes N H (H.prev z) z) (sym e) (subst (λ z. Goes N H z w) (sym m.prev) new)
@@ -83,7 +90,9 @@ module _ {P : Type 0} (N : Net P) (law : Lawful N) (G H : Flow P) (L : Labels P)
       ];
       idle = λ q o f.
           let was = unused_before q f in
-          m.prev_else q (unlike q w was here) ∙ h.flow.idle q o was;
+          let is = h.flow.idle q o was in
+          let n = unlike q w was here in
+          (m.prev_else q n ∙ is.0, m.charge_else q n ∙ is.1);
     };
     labels = record {
       entry = h.labels.entry;

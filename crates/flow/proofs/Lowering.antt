@@ -5,18 +5,18 @@ use Rattle.flow.specs.Nets.{Net, Lawful, Flow, Bears, Reaches}
 use Rattle.flow.specs.Fits.{Labels, Fits, NoHole}
 use Rattle.flow.specs.Seeks.{Why, Marks, Cause, Tells, Seeking, Offer, Lowers}
 
-module _ {P : Type 0} (N : Net P) (law : Lawful N) (F : Flow P) (L : Labels P) (W : ℕ) (Entered : P → Type 0) (h : Fits N F L NoHole)
-    (M : Marks P) (s : Seeking N F L W Entered M) (w : P) (v : ℕ) (y : Why P) (offer : Offer N F M w v y) where
+module _ {P : Type 0} (N : Net P) (law : Lawful N) (F : Flow P) (L : Labels P) (W : ℕ) (h : Fits N F L NoHole)
+    (M : Marks P) (s : Seeking N F L W M) (w : P) (v : ℕ) (y : Why P) (offer : Offer N F M.label w v y) where
   pub offer_usable : N.Usable w
   offer_usable = elim offer [
     | Offer.by_entry r o f free is ↦ o
-    | Offer.by_place a u k c r b reach seen is pin ↦ elim reach [ inl l ↦ law.to l.0 | inr e ↦ subst N.Usable (sym e.0) b.from ]
+    | Offer.by_place a u k c r b reach is pin ↦ elim reach [ inl l ↦ law.to l.0 | inr e ↦ subst N.Usable (sym e.0) b.from ]
   ]
 
   pub offer_high : L.into w ≤ v
   offer_high = elim offer [
     | Offer.by_entry r o f free is ↦ omega (arith, h.labels.entry w o f)
-    | Offer.by_place a u k c r b reach seen is pin ↦ omega (arith, s.above u b.to, h.labels.along a u k b w c reach)
+    | Offer.by_place a u k c r b reach is pin ↦ omega (arith, s.above u b.to, h.labels.along a u k b w c reach)
   ]
 
   -- no label is lowered by itself
@@ -28,7 +28,7 @@ module _ {P : Type 0} (N : Net P) (law : Lawful N) (F : Flow P) (L : Labels P) (
     ]
     | inr g ↦ elim reach [
       | inl l ↦ omega (arith, ap M.label e, ap (N.cost a) e, l.1, g.1)
-      | inr r ↦ law.apart (h.flow.goes a u g.0).0 (sym (e ∙ r.0))
+      | inr r ↦ law.apart (h.flow.goes a u g.0).link (sym (e ∙ r.0))
     ]
   ]
 
@@ -39,28 +39,22 @@ module _ {P : Type 0} (N : Net P) (law : Lawful N) (F : Flow P) (L : Labels P) (
       | inr n ↦ omega (arith, (l.others x n).label)
     ]
 
-    stamped : (x : P) → 0 < M.stamp x → 0 < K.stamp x
-    stamped x t = elim (law.same_or_not x w) [
-      | inl e ↦ omega (arith, ap K.stamp e, l.stamp)
-      | inr n ↦ omega (arith, (l.others x n).stamp)
-    ]
-
     -- the label above w has a cause
     because : Cause N F K w
     because = elim offer [
       | Offer.by_entry r o f free is ↦ Cause.by_entry (l.why ∙ r) f (omega (arith, l.label))
-      | Offer.by_place a u k c r b reach seen is pin ↦
+      | Offer.by_place a u k c r b reach is pin ↦
           let same = l.others u (unlike a u k c b reach is low) in
-          Cause.by_place a u k c (l.why ∙ r) b reach (omega (arith, same.stamp)) (omega (arith, l.label, same.label))
+          Cause.by_place a u k c (l.why ∙ r) b reach (omega (arith, l.label, same.label))
           (λ e. omega (arith, l.stamp, same.stamp, s.clocked u b.to))
     ]
 
     -- and any other the one that it had
     still : (x : P) → (x ≡ w → ⊥) → Cause N F M x → Cause N F K x
     still x n (Cause.by_entry r f e) = Cause.by_entry ((l.others x n).why ∙ r) f (omega (arith, (l.others x n).label))
-    still x n (Cause.by_place a u k c r b reach seen slack later) =
+    still x n (Cause.by_place a u k c r b reach slack later) =
         let same = l.others x n in
-        Cause.by_place a u k c (same.why ∙ r) b reach (stamped u seen) (omega (arith, same.label, falls u))
+        Cause.by_place a u k c (same.why ∙ r) b reach (omega (arith, same.label, falls u))
         (λ e. elim (law.same_or_not u w) [
           | inl i ↦ absurd (omega (arith, ap K.label i, ap M.label i, l.label, same.label))
           | inr m ↦
@@ -72,7 +66,7 @@ module _ {P : Type 0} (N : Net P) (law : Lawful N) (F : Flow P) (L : Labels P) (
     fresh : N.First w → F.used w ≡ true → ⊥
     fresh f t = elim offer [
       | Offer.by_entry r o g free is ↦ both_ways (F.used w) free t
-      | Offer.by_place a u k c r b reach seen is pin ↦ omega (arith, pin f, offer_high, h.labels.entered w offer_usable f t (λ x. x))
+      | Offer.by_place a u k c r b reach is pin ↦ omega (arith, pin f, offer_high, h.labels.entered w offer_usable f t (λ x. x))
     ]
 
     tells : L.exit + K.rise < W → Tells N F L K K.last
@@ -81,7 +75,6 @@ module _ {P : Type 0} (N : Net P) (law : Lawful N) (F : Flow P) (L : Labels P) (
         usable = offer_usable;
         last = r.0;
         unused = r.1;
-        seen = omega (arith, l.stamp);
         is = omega (arith, l.label, r.3);
       })
       | inr r ↦
@@ -92,37 +85,27 @@ module _ {P : Type 0} (N : Net P) (law : Lawful N) (F : Flow P) (L : Labels P) (
             usable = t.usable;
             last = t.last;
             unused = t.unused;
-            seen = omega (arith, same.stamp, t.seen);
             is = omega (arith, same.label, t.is, r.1);
           })
     ]
 
-    pub lowered : Seeking N F L W Entered K
+    pub lowered : Seeking N F L W K
     lowered = record {
       above = λ u o. elim (law.same_or_not u w) [
         | inl e ↦ omega (arith, ap K.label e, ap L.into e, l.label, offer_high)
         | inr n ↦ omega (arith, (l.others u n).label, s.above u o)
       ];
-      entered = λ u o e. omega (arith, falls u, s.entered u o e);
-      unseen = λ a u k b z.
-          let n : u ≡ w → ⊥ = λ e. omega (arith, ap K.stamp e, l.stamp) in
-          let same = l.others u n in
-          omega (arith, s.unseen a u k b (sym same.stamp ∙ z), same.label);
-      quiet = λ a u k b seen q x c reach.
+      quiet = λ a u k b m q x c reach.
           let n : u ≡ w → ⊥ = λ e. both_ways (K.waits w) (sym (ap K.waits e) ∙ q) l.waits in
           let same = l.others u n in
-          omega (arith, s.quiet a u k b (omega (arith, same.stamp)) (sym same.waits ∙ q) x c reach, falls x, same.label);
-      caused = λ x o t. elim (law.same_or_not x w) [
+          omega (arith, s.quiet a u k b (omega (arith, same.label)) (sym same.waits ∙ q) x c reach, falls x, same.label);
+      caused = λ a x k b m. elim (law.same_or_not x w) [
         | inl e ↦ subst (Cause N F K) (sym e) because
-        | inr n ↦ still x n (s.caused x o (omega (arith, (l.others x n).stamp)))
+        | inr n ↦ still x n (s.caused a x k b (omega (arith, (l.others x n).label)))
       ];
-      waiting = λ u o q. elim (law.same_or_not u w) [
-        | inl e ↦ omega (arith, ap K.stamp e, l.stamp)
-        | inr n ↦ let same = l.others u n in omega (arith, same.stamp, s.waiting u o (sym same.waits ∙ q))
-      ];
-      fresh = λ x o f t. elim (law.same_or_not x w) [
-        | inl e ↦ absurd (fresh (subst N.First e f) (sym (ap F.used e) ∙ t))
-        | inr n ↦ (l.others x n).stamp ∙ s.fresh x o f t
+      waiting = λ u o q f t. elim (law.same_or_not u w) [
+        | inl e ↦ fresh (subst N.First e f) (sym (ap F.used e) ∙ t)
+        | inr n ↦ s.waiting u o (sym (l.others u n).waits ∙ q) f t
       ];
       clocked = λ u o. elim (law.same_or_not u w) [
         | inl e ↦ omega (arith, ap K.stamp e, l.stamp, l.clock)

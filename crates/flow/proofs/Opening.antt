@@ -30,12 +30,18 @@ module _ {P : Type 0} (N : Net P) (law : Lawful N) (G H : Flow P) (L : Labels P)
   pub open_fits : Fits N H L (λ p. p ≡ e)
   open_fits = record {
     flow = record {
-      goes = λ p q g. let t = h.flow.goes p q (back p q g) in (t.0, used_still q t.1, m.prev q ∙ t.2, λ i. unlike e q free t.1 (sym i));
+      goes = λ p q g. let t = h.flow.goes p q (back p q g) in record {
+        link = t.link;
+        used = used_still q t.used;
+        prev = m.prev q ∙ t.prev;
+        charge = m.charge q ∙ t.charge;
+        whole = λ i. unlike e q free t.used (sym i);
+      };
       comes = λ q o t first n.
           let g = h.flow.comes q o (used_before q t n) first (λ x. x) in
           subst (λ z. Goes N H z q) (sym (m.prev q))
           (record { usable = g.usable; used = used_still (G.prev q) g.used; not_last = g.not_last; to = m.next (G.prev q) ∙ g.to });
-      idle = λ q o f. m.prev q ∙ h.flow.idle q o (unused_before q f);
+      idle = λ q o f. let is = h.flow.idle q o (unused_before q f) in (m.prev q ∙ is.0, m.charge q ∙ is.1);
     };
     labels = record {
       entry = h.labels.entry;
@@ -54,7 +60,7 @@ module _ {P : Type 0} (N : Net P) (law : Lawful N) (G : Flow P) (L : Labels P) (
   pub end_fits : N.First w → L.into w ≡ N.entry w → Fits N G L NoHole
   end_fits first is = record {
     flow = record {
-      goes = λ p q g. let t = h.flow.goes p q g in (t.0, t.1, t.2, λ x. x);
+      goes = λ p q g. let t = h.flow.goes p q g in record { link = t.link; used = t.used; prev = t.prev; charge = t.charge; whole = λ x. x };
       comes = λ q o t nf n. h.flow.comes q o t nf (λ e. nf (subst N.First (sym e) first));
       idle = h.flow.idle;
     };

@@ -1,28 +1,25 @@
 -- How a search begins. Assumes nothing.
-use Rattle.std.proofs.Common.{◌≡◌, ℕ, ◌≤◌, true, false, ◌⊎◌, sym, ap, ◌∙◌, subst, inl, inr, arith}
+use Rattle.std.proofs.Common.{◌≡◌, ℕ, ◌≤◌, true, false, sym, ap, ◌∙◌, subst, inl, inr, arith}
 use Rattle.std.proofs.lemmas.Bool.{both_ways}
 use Rattle.flow.specs.Nets.{Net, Lawful, Flow, Bears}
 use Rattle.flow.specs.Fits.{Labels, Fits, NoHole}
 use Rattle.flow.specs.Seeks.{Marks, Cause, Seeking, Blank}
 
-module _ {P : Type 0} (N : Net P) (law : Lawful N) (F : Flow P) (L : Labels P) (W : ℕ) (Entered : P → Type 0) (h : Fits N F L NoHole) where
-  pub blank : (M : Marks P) → Blank N L W M → ((u : P) → Entered u → ⊥) → Seeking N F L W Entered M
-  blank M b none = record {
+module _ {P : Type 0} (N : Net P) (law : Lawful N) (F : Flow P) (L : Labels P) (W : ℕ) (h : Fits N F L NoHole) where
+  pub blank : (M : Marks P) → Blank N L W M → Seeking N F L W M
+  blank M b = record {
     above = λ u o. omega (arith, b.label u o, h.labels.low u o, b.rise);
-    entered = λ u o e. absurd (none u e);
-    unseen = λ a u k d z. omega (arith, b.label u d.to);
-    quiet = λ a u k d seen q w c reach. absurd (omega (arith, b.stamp u d.to));
-    caused = λ w o seen. absurd (omega (arith, b.stamp w o));
-    waiting = λ u o t. absurd (both_ways (M.waits u) (b.waits u o) t);
-    fresh = λ w o f t. b.stamp w o;
-    clocked = λ u o. omega (arith, b.stamp u o);
+    quiet = λ a u k d m q w c reach. absurd (omega (arith, b.label u d.to));
+    caused = λ a w k d m. absurd (omega (arith, b.label w d.to));
+    waiting = λ u o t f g. both_ways (M.waits u) (b.waits u o) t;
+    clocked = b.stamp;
     cap = omega (arith, b.rise);
     bound = λ w o l f. omega (arith, b.label w o, h.labels.low w o, b.rise);
     last = λ room. absurd (omega (arith, b.rise));
   }
 
   -- the label above a used first place u is its entry
-  module _ (M : Marks P) (s : Seeking N F L W Entered M) (u : P) (o : N.Usable u) (first : N.First u) (used : F.used u ≡ true)
+  module _ (M : Marks P) (s : Seeking N F L W M) (u : P) (o : N.Usable u) (first : N.First u) (used : F.used u ≡ true)
       (label : P → ℕ) (here : label u ≡ N.entry u) (else' : (x : P) → (x ≡ u → ⊥) → label x ≡ M.label x) where
     abbrev K : Marks P
     K = record M { label = label }
@@ -37,7 +34,7 @@ module _ {P : Type 0} (N : Net P) (law : Lawful N) (F : Flow P) (L : Labels P) (
     no_bearer : (a x : P) (k : ℕ) → Bears N F a x k → x ≡ u → ⊥
     no_bearer a x k b e = elim b.how [
       | inl i ↦ both_ways (F.used a) i.0 (ap F.used (sym i.1 ∙ e) ∙ used)
-      | inr g ↦ law.not_first (h.flow.goes a x g.0).0 (subst N.First (sym e) first)
+      | inr g ↦ law.not_first (h.flow.goes a x g.0).link (subst N.First (sym e) first)
     ]
 
     unused : (x : P) → F.used x ≡ false → x ≡ u → ⊥
@@ -45,25 +42,21 @@ module _ {P : Type 0} (N : Net P) (law : Lawful N) (F : Flow P) (L : Labels P) (
 
     still : (x : P) → (x ≡ u → ⊥) → Cause N F M x → Cause N F K x
     still x n (Cause.by_entry r f e) = Cause.by_entry r f (omega (arith, else' x n))
-    still x n (Cause.by_place a y k c r b reach seen slack later) =
+    still x n (Cause.by_place a y k c r b reach slack later) =
         let other = else' y (no_bearer a y k b) in
-        Cause.by_place a y k c r b reach seen (omega (arith, other, else' x n)) (λ e. later (omega (arith, other, else' x n)))
+        Cause.by_place a y k c r b reach (omega (arith, other, else' x n)) (λ e. later (omega (arith, other, else' x n)))
 
-    pub pinned : (Now : P → Type 0) → ((x : P) → Now x → Entered x ⊎ (x ≡ u)) → Seeking N F L W Now K
-    pinned Now more = record {
+    pub pinned : Seeking N F L W K
+    pinned = record {
       above = λ x p. elim (law.same_or_not x u) [
         | inl e ↦ omega (arith, ap label e, ap L.into e, here, h.labels.entry u o first)
         | inr n ↦ omega (arith, else' x n, s.above x p)
       ];
-      entered = λ x p m. elim (more x m) [
-        | inl e ↦ omega (arith, falls x, s.entered x p e)
-        | inr e ↦ omega (arith, ap label e, ap N.entry e, here)
-      ];
-      unseen = λ a x k b z. omega (arith, s.unseen a x k b z, else' x (no_bearer a x k b));
-      quiet = λ a x k b seen q w c reach. omega (arith, s.quiet a x k b seen q w c reach, else' x (no_bearer a x k b), falls w);
-      caused = λ w p t. still w (λ e. omega (arith, ap M.stamp e, s.fresh u o first used)) (s.caused w p t);
+      quiet = λ a x k b m q w c reach.
+          let other = else' x (no_bearer a x k b) in
+          omega (arith, s.quiet a x k b (omega (arith, other)) q w c reach, other, falls w);
+      caused = λ a w k b m. let n = no_bearer a w k b in still w n (s.caused a w k b (omega (arith, else' w n)));
       waiting = s.waiting;
-      fresh = s.fresh;
       clocked = s.clocked;
       cap = s.cap;
       bound = λ w p m f. omega (arith, else' w (unused w f), s.bound w p m f);
@@ -71,7 +64,6 @@ module _ {P : Type 0} (N : Net P) (law : Lawful N) (F : Flow P) (L : Labels P) (
         usable = t.usable;
         last = t.last;
         unused = t.unused;
-        seen = t.seen;
         is = omega (arith, t.is, else' M.last (unused M.last t.unused));
       };
     }

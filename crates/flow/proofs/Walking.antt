@@ -1,21 +1,23 @@
 -- The walk: each of its moves leads to a hole of an earlier stamp. Assumes nothing.
-use Rattle.std.proofs.Common.{◌≡◌, ℕ, ◌+◌, ◌<◌, cond, sym, refl, ap, ◌∙◌, subst, inl, inr, arith}
-use Rattle.std.proofs.lemmas.Bool.{cond-true, cond-false}
+use Rattle.std.proofs.Common.{◌≡◌, ℕ, ◌+◌, ◌<◌, ◌≤◌, cond, sym, refl, ap, ◌∙◌, subst, inl, inr, arith}
+use Rattle.std.proofs.lemmas.Bool.{both_ways, cond-true, cond-false}
 use Rattle.flow.specs.Nets.{Net, Lawful, Flow, Goes, Bears, Reaches}
 use Rattle.flow.specs.Fits.{Labels, Fits, NoHole}
 use Rattle.flow.specs.Moves.{Opened, Linked, Dropped}
 use Rattle.flow.specs.Seeks.{source, below, Marks, Cause}
-use Rattle.flow.specs.Walks.{Reached, Ready, Settled, Walk}
+use Rattle.flow.specs.Walks.{Ready, Settled, Walk}
 use Rattle.flow.proofs.Bearing.{bears_idle, bears_one}
 use Rattle.flow.proofs.Opening as Opening
 use Rattle.flow.proofs.Linking as Linking
 use Rattle.flow.proofs.Dropping as Dropping
 
-module _ {P : Type 0} (N : Net P) (law : Lawful N) (F : Flow P) (L : Labels P) (W : ℕ) (M : Marks P) (s : Settled N F L W M) where
+module _ {P : Type 0} (N : Net P) (law : Lawful N) (F : Flow P) (L : Labels P) (W : ℕ) (M : Marks P) (s : Settled N F L W M) (room : L.exit < W) where
   -- The walk begins: a last place is opened.
   pub opens : (G : Flow P) (e : P) → Ready N F L M e → Opened F G e → Walk N F L M G e
   opens G e r m = record {
-    usable = r.usable;
+    bearer = e;
+    gap = 0;
+    bears = bears_idle N F e r.usable r.unused;
     used = m.used;
     fits = Opening.open_fits N law F G L e s.fits r.last r.unused m;
     reached = r.reached;
@@ -35,7 +37,7 @@ module _ {P : Type 0} (N : Net P) (law : Lawful N) (F : Flow P) (L : Labels P) (
     reaches : Reaches N a w c
     is : L.into w + k ≡ L.into u + c
     early : M.stamp u < M.stamp w
-    reached : Reached L M u
+    reached : M.label u ≤ L.into u
 
   unsaid : (a : P) → source ≡ below a → ⊥
   unsaid a e = cc
@@ -43,14 +45,17 @@ module _ {P : Type 0} (N : Net P) (law : Lawful N) (F : Flow P) (L : Labels P) (
   says_one : (a b : P) → below a ≡ below b → a ≡ b
   says_one a b e = cc
 
-  comes_from : (w a : P) → N.Usable w → Reached L M w → M.why w ≡ below a → From w a
-  comes_from w a o reached says = elim (s.caused w o reached.0) [
+  -- the label above w has a cause
+  cause : (b w : P) (k : ℕ) → Bears N F b w k → M.label w ≤ L.into w → Cause N F M w
+  cause b w k bears reached = s.caused b w k bears (omega (arith, s.fits.labels.low w bears.to))
+
+  comes_from : (b w a : P) (j : ℕ) → Bears N F b w j → M.label w ≤ L.into w → M.why w ≡ below a → From w a
+  comes_from b w a j borne reached says = elim (cause b w j borne reached) [
     | Cause.by_entry r f e ↦ absurd (unsaid a (sym r ∙ says))
-    | Cause.by_place b u k c r bears reaches seen slack later ↦
-        let up = s.fits.labels.along b u k bears w c reaches in
+    | Cause.by_place d u k c r bears reaches slack later ↦
+        let up = s.fits.labels.along d u k bears w c reaches in
         let low = s.above u bears.to in
-        let near = reached.1 in
-        subst (From w) (says_one b a (sym r ∙ says)) (record {
+        subst (From w) (says_one d a (sym r ∙ says)) (record {
           u = u;
           k = k;
           c = c;
@@ -58,21 +63,21 @@ module _ {P : Type 0} (N : Net P) (law : Lawful N) (F : Flow P) (L : Labels P) (
           reaches = reaches;
           is = omega arith;
           early = later (omega arith);
-          reached = (seen, omega arith);
+          reached = omega arith;
         })
   ]
 
   module _ (G : Flow P) (w : P) (walk : Walk N F L M G w) where
     -- The walk ends at the entry.
     pub ends : M.why w ≡ source → Fits N G L NoHole
-    ends says = elim (s.caused w walk.usable walk.reached.0) [
-      | Cause.by_entry r f e ↦ Opening.end_fits N law G L w walk.fits f (omega (arith, walk.reached.1, s.fits.labels.entry w walk.usable f))
-      | Cause.by_place a u k c r b reach seen slack later ↦ absurd (unsaid a (sym says ∙ r))
+    ends says = elim (cause walk.bearer w walk.gap walk.bears walk.reached) [
+      | Cause.by_entry r f e ↦ Opening.end_fits N law G L w walk.fits f (omega (arith, walk.reached, s.fits.labels.entry w walk.bears.to f))
+      | Cause.by_place a u k c r b reach slack later ↦ absurd (unsaid a (sym says ∙ r))
     ]
 
     module _ (a : P) (says : M.why w ≡ below a) where
       abbrev from : From w a
-      from = comes_from w a walk.usable walk.reached says
+      from = comes_from walk.bearer w a walk.gap walk.bears walk.reached says
 
       now : (G.used a ≡ F.used a) × (G.next a ≡ F.next a)
       now = walk.same a from.u from.k from.bears from.early
@@ -96,7 +101,7 @@ module _ {P : Type 0} (N : Net P) (law : Lawful N) (F : Flow P) (L : Labels P) (
 
       module _ (H : Flow P) where
         -- A place a is linked to the hole.
-        pub links : (a ≡ w → ⊥) → Linked G H a w → (let x = cond (G.used a) (G.next a) a in Walk N F L M H x × (M.stamp x < M.stamp w))
+        pub links : (a ≡ w → ⊥) → Linked N G H a w → (let x = cond (G.used a) (G.next a) a in Walk N F L M H x × (M.stamp x < M.stamp w))
         links n m =
             let link : N.Link a w × (from.c ≡ N.cost a w) = elim from.reaches [ inl l ↦ l | inr r ↦ absurd (n (sym r.0)) ] in
             let is : L.into w + from.k ≡ L.into from.u + N.cost a w = omega (arith, from.is, link.1) in
@@ -106,7 +111,9 @@ module _ {P : Type 0} (N : Net P) (law : Lawful N) (F : Flow P) (L : Labels P) (
             ] in
             subst (λ z. Walk N F L M H z × (M.stamp z < M.stamp w)) to (
               record {
-                usable = from.bears.to;
+                bearer = a;
+                gap = from.k;
+                bears = from.bears;
                 used = Linking.link_used N law G H L w walk.fits walk.used a from.u from.k link.0 bears_now is m;
                 fits = Linking.link_fits N law G H L w walk.fits walk.used a from.u from.k link.0 bears_now is m;
                 reached = from.reached;
@@ -127,11 +134,16 @@ module _ {P : Type 0} (N : Net P) (law : Lawful N) (F : Flow P) (L : Labels P) (
           | inr g ↦ g
         ] in
         let here : f.c ≡ 0 = elim f.reaches [ inl l ↦ absurd (law.apart l.0 refl) | inr r ↦ r.1 ] in
-        let first : N.First w → ⊥ = λ p. omega (arith, s.fresh w walk.usable p (sym (now w says).0 ∙ goes.0.used), walk.reached.0) in
+        let first : N.First w → ⊥ = λ p. elim walk.bears.how [
+          | inl i ↦ both_ways (F.used w) (ap F.used i.1 ∙ i.0) (sym (now w says).0 ∙ goes.0.used)
+          | inr g ↦ law.not_first (s.fits.flow.goes walk.bearer w g.0).link p
+        ] in
         let is : L.into w + N.cost w f.u ≡ L.into f.u = omega (arith, f.is, goes.1, here) in
         subst (λ z. Walk N F L M H z × (M.stamp z < M.stamp w)) (sym goes.0.to) (
           record {
-            usable = f.bears.to;
+            bearer = w;
+            gap = f.k;
+            bears = f.bears;
             used = Dropping.drop_used N law G H L w walk.fits f.u goes.0 first is m;
             fits = Dropping.drop_fits N law G H L w walk.fits f.u goes.0 first is m;
             reached = f.reached;

@@ -8,11 +8,19 @@ pub record Labels (P : Type 0) : Type 0 where
   pub into : P → ℕ
   pub exit : ℕ
 
+-- where the flow goes from p on to q, q is a used place below that has p above it, and is no hole
+pub record Comes {P : Type 0} (N : Net P) (F : Flow P) (Hole : P → Type 0) (p q : P) : Type 0 where
+  pub link : N.Link p q
+  pub used : F.used q ≡ true
+  pub prev : F.prev q ≡ p
+  pub charge : F.charge q ≡ N.cost p q
+  pub whole : Hole q → ⊥
+
 -- the used places make up ways from a first place, or from a hole, to a last place; no two ways share a place
 pub record Conserved {P : Type 0} (N : Net P) (F : Flow P) (Hole : P → Type 0) : Type 0 where
-  pub goes : (p q : P) → Goes N F p q → N.Link p q × (F.used q ≡ true) × (F.prev q ≡ p) × (Hole q → ⊥)
+  pub goes : (p q : P) → Goes N F p q → Comes N F Hole p q
   pub comes : (q : P) → N.Usable q → F.used q ≡ true → (N.First q → ⊥) → (Hole q → ⊥) → Goes N F (F.prev q) q
-  pub idle : (q : P) → N.Usable q → F.used q ≡ false → F.prev q ≡ q
+  pub idle : (q : P) → N.Usable q → F.used q ≡ false → (F.prev q ≡ q) × (F.charge q ≡ 0)
 
 -- no label is above what the entry, or another label, would make it; along the flow it is just that
 pub record Labelled {P : Type 0} (N : Net P) (F : Flow P) (L : Labels P) (Hole : P → Type 0) : Type 0 where

@@ -1,5 +1,5 @@
 -- A network of places, and a flow through it. P is the type of its places. Assumes nothing.
-use Rattle.std.specs.Prelude.{◌≡◌, ℕ, Bool, true, false, cond, ◌⊎◌}
+use Rattle.std.specs.Prelude.{◌≡◌, ℕ, Bool, true, false, ◌⊎◌}
 
 -- which places can be used, which are first and last, how places are linked, and what it costs to enter at one and to take a link
 pub record Net (P : Type 0) : Type 1 where
@@ -19,11 +19,12 @@ pub record Lawful {P : Type 0} (N : Net P) : Type 0 where
   pub not_last : {p q : P} → N.Link p q → N.Last p → ⊥
   pub not_first : {p q : P} → N.Link p q → N.First q → ⊥
 
--- which places are used, where each goes on, and where each comes from
+-- which places are used, where each goes on, where each comes from, and what the link costs by which it comes
 pub record Flow (P : Type 0) : Type 0 where
   pub used : P → Bool
   pub next : P → P
   pub prev : P → P
+  pub charge : P → ℕ
 
 -- the flow goes from p on to q
 pub record Goes {P : Type 0} (N : Net P) (F : Flow P) (p q : P) : Type 0 where
@@ -31,10 +32,6 @@ pub record Goes {P : Type 0} (N : Net P) (F : Flow P) (p q : P) : Type 0 where
   pub used : F.used p ≡ true
   pub not_last : N.Last p → ⊥
   pub to : F.next p ≡ q
-
--- what the link costs by which the flow comes to u
-abbrev pub charge : {P : Type 0} → Net P → Flow P → P → ℕ
-charge N F u = cond (F.used u) (N.cost (F.prev u) u) 0
 
 -- the label below a is k less than the label above u: a is not used and is u, or the flow goes from a on to u at the cost k
 pub record Bears {P : Type 0} (N : Net P) (F : Flow P) (a u : P) (k : ℕ) : Type 0 where

@@ -23,28 +23,23 @@ pub record Marks (P : Type 0) : Type 0 where
 -- why the label on trial above w is no lower; what it comes from was lowered before it, where it is just that
 pub data Cause {P : Type 0} (N : Net P) (F : Flow P) (M : Marks P) (w : P) : Type 0 where
   by_entry : M.why w ≡ source → N.First w → N.entry w ≤ M.label w → Cause N F M w
-  by_place : (a u : P) (k c : ℕ) → M.why w ≡ below a → Bears N F a u k → Reaches N a w c → 0 < M.stamp u →
-      M.label u + c ≤ M.label w + k → (M.label u + c ≡ M.label w + k → M.stamp u < M.stamp w) → Cause N F M w
+  by_place : (a u : P) (k c : ℕ) → M.why w ≡ below a → Bears N F a u k → Reaches N a w c → M.label u + c ≤ M.label w + k →
+      (M.label u + c ≡ M.label w + k → M.stamp u < M.stamp w) → Cause N F M w
 
 -- the place p says how far the exit may rise
 pub record Tells {P : Type 0} (N : Net P) (F : Flow P) (L : Labels P) (M : Marks P) (p : P) : Type 0 where
   pub usable : N.Usable p
   pub last : N.Last p
   pub unused : F.used p ≡ false
-  pub seen : 0 < M.stamp p
   pub is : M.label p ≡ L.into p + M.rise
 
--- what holds while labels fall; places that are not seen have the stamp 0, W is the most that the exit may be, and first places
--- are entered one after another
-pub record Seeking {P : Type 0} (N : Net P) (F : Flow P) (L : Labels P) (W : ℕ) (Entered : P → Type 0) (M : Marks P) : Type 0 where
+-- what holds while labels fall; W is the most that the exit may be
+pub record Seeking {P : Type 0} (N : Net P) (F : Flow P) (L : Labels P) (W : ℕ) (M : Marks P) : Type 0 where
   pub above : (u : P) → N.Usable u → L.into u ≤ M.label u
-  pub entered : (u : P) → N.Usable u → Entered u → M.label u ≤ N.entry u
-  pub unseen : (a u : P) (k : ℕ) → Bears N F a u k → M.stamp u ≡ 0 → W ≤ M.label u
-  pub quiet : (a u : P) (k : ℕ) → Bears N F a u k → 0 < M.stamp u → M.waits u ≡ false →
+  pub quiet : (a u : P) (k : ℕ) → Bears N F a u k → M.label u < W → M.waits u ≡ false →
       (w : P) (c : ℕ) → Reaches N a w c → M.label w + k ≤ M.label u + c
-  pub caused : (w : P) → N.Usable w → 0 < M.stamp w → Cause N F M w
-  pub waiting : (u : P) → N.Usable u → M.waits u ≡ true → 0 < M.stamp u
-  pub fresh : (w : P) → N.Usable w → N.First w → F.used w ≡ true → M.stamp w ≡ 0
+  pub caused : (a w : P) (k : ℕ) → Bears N F a w k → M.label w < W → Cause N F M w
+  pub waiting : (u : P) → N.Usable u → M.waits u ≡ true → N.First u → F.used u ≡ true → ⊥
   pub clocked : (u : P) → N.Usable u → M.stamp u ≤ M.clock
   pub cap : L.exit + M.rise ≤ W
   pub bound : (w : P) → N.Usable w → N.Last w → F.used w ≡ false → L.into w + M.rise ≤ M.label w
@@ -54,14 +49,18 @@ pub record Seeking {P : Type 0} (N : Net P) (F : Flow P) (L : Labels P) (W : ℕ
 pub record Blank {P : Type 0} (N : Net P) (L : Labels P) (W : ℕ) (M : Marks P) : Type 0 where
   pub label : (u : P) → N.Usable u → M.label u ≡ W
   pub waits : (u : P) → N.Usable u → M.waits u ≡ false
-  pub stamp : (u : P) → N.Usable u → M.stamp u ≡ 0
+  pub stamp : (u : P) → N.Usable u → M.stamp u ≤ M.clock
   pub rise : L.exit + M.rise ≡ W
 
+-- first places are entered: their labels on trial are no higher than their entries
+abbrev pub Entered : {P : Type 0} → Net P → Marks P → Type 0
+Entered N M = (u : _) → N.Usable u → N.First u → M.label u ≤ N.entry u
+
 -- the label above w may be v, for the reason y
-pub data Offer {P : Type 0} (N : Net P) (F : Flow P) (M : Marks P) (w : P) (v : ℕ) (y : Why P) : Type 0 where
-  by_entry : y ≡ source → N.Usable w → N.First w → F.used w ≡ false → v ≡ N.entry w → Offer N F M w v y
-  by_place : (a u : P) (k c : ℕ) → y ≡ below a → Bears N F a u k → Reaches N a w c → 0 < M.stamp u → v + k ≡ M.label u + c →
-      (N.First w → M.label w ≤ N.entry w) → Offer N F M w v y
+pub data Offer {P : Type 0} (N : Net P) (F : Flow P) (label : P → ℕ) (w : P) (v : ℕ) (y : Why P) : Type 0 where
+  by_entry : y ≡ source → N.Usable w → N.First w → F.used w ≡ false → v ≡ N.entry w → Offer N F label w v y
+  by_place : (a u : P) (k c : ℕ) → y ≡ below a → Bears N F a u k → Reaches N a w c → v + k ≡ label u + c →
+      (N.First w → label w ≤ N.entry w) → Offer N F label w v y
 
 -- how far the exit may rise, and the place that says so, once the label above w is lowered to v: before, rise and last; then, to and at
 abbrev pub Closer : {P : Type 0} → Net P → Flow P → Labels P → P → ℕ → (rise : ℕ) → P → (to : ℕ) → P → Type 0

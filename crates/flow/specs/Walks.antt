@@ -4,29 +4,26 @@ use Rattle.flow.specs.Nets.{Net, Flow, Bears}
 use Rattle.flow.specs.Fits.{Labels, Fits, NoHole}
 use Rattle.flow.specs.Seeks.{Marks, Cause}
 
--- the label above w is the label on trial
-abbrev pub Reached : {P : Type 0} → Labels P → Marks P → P → Type 0
-Reached L M w = (0 < M.stamp w) × (M.label w ≤ L.into w)
-
 -- the last place e is where a way can be made
 pub record Ready {P : Type 0} (N : Net P) (F : Flow P) (L : Labels P) (M : Marks P) (e : P) : Type 0 where
   pub usable : N.Usable e
   pub last : N.Last e
   pub unused : F.used e ≡ false
-  pub reached : Reached L M e
+  pub reached : M.label e ≤ L.into e
 
 -- labels that are settled, and marks that tell the reasons; there is room for another way while the exit is below W
 pub record Settled {P : Type 0} (N : Net P) (F : Flow P) (L : Labels P) (W : ℕ) (M : Marks P) : Type 0 where
   pub fits : Fits N F L NoHole
   pub above : (u : P) → N.Usable u → L.into u ≤ M.label u
-  pub caused : (w : P) → N.Usable w → 0 < M.stamp w → Cause N F M w
-  pub fresh : (w : P) → N.Usable w → N.First w → F.used w ≡ true → M.stamp w ≡ 0
+  pub caused : (a w : P) (k : ℕ) → Bears N F a w k → M.label w < W → Cause N F M w
   pub ready : L.exit < W → Ready N F L M M.last
 
--- on the walk the flow was F and is G, with a hole at w; what bears a label of an earlier stamp is as it was
+-- on the walk the flow was F and is G, with a hole at w, which bore a label; what bears a label of an earlier stamp is as it was
 pub record Walk {P : Type 0} (N : Net P) (F : Flow P) (L : Labels P) (M : Marks P) (G : Flow P) (w : P) : Type 0 where
-  pub usable : N.Usable w
+  pub bearer : P
+  pub gap : ℕ
+  pub bears : Bears N F bearer w gap
   pub used : G.used w ≡ true
   pub fits : Fits N G L (λ p. p ≡ w)
-  pub reached : Reached L M w
+  pub reached : M.label w ≤ L.into w
   pub same : (a u : P) (k : ℕ) → Bears N F a u k → M.stamp u < M.stamp w → (G.used a ≡ F.used a) × (G.next a ≡ F.next a)
