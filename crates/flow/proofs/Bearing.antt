@@ -1,7 +1,7 @@
 -- Which label bears the label below a place. Assumes nothing.
 use Rattle.std.proofs.Common.{◌≡◌, ℕ, ◌+◌, ◌≤◌, true, false, sym, refl, ap, ◌∙◌, subst, inl, inr, arith}
 use Rattle.std.proofs.lemmas.Bool.{both_ways, cases_Bool}
-use Rattle.flow.specs.Nets.{Net, Lawful, Flow, Goes, Bears}
+use Rattle.flow.specs.Nets.{Net, Lawful, Flow, Goes, Bears, Reaches}
 use Rattle.flow.specs.Fits.{Conserved, Labels, Labelled}
 
 module _ {P : Type 0} (N : Net P) (F : Flow P) where
@@ -24,6 +24,13 @@ module _ {P : Type 0} (N : Net P) (F : Flow P) where
   -- the label above a place is no lower than the one below makes it
   pub bears_low : (L : Labels P) (Hole : P → Type 0) → Labelled N F L Hole → (a u : P) (k : ℕ) → Bears N F a u k → L.into a + k ≤ L.into u
   bears_low L Hole h a u k b = omega (arith, h.along a u k b a 0 (inr (refl, refl)))
+
+  -- a label is not lowered by itself
+  pub bears_itself : Lawful N → (Hole : P → Type 0) → Conserved N F Hole → (a u : P) (k c : ℕ) → Bears N F a u k → Reaches N a u c → k ≤ c
+  bears_itself law Hole h a u k c b reach = elim b.how [
+    | inl i ↦ omega (arith, i.2)
+    | inr g ↦ elim reach [ inl l ↦ omega (arith, l.1, g.1) | inr r ↦ absurd (law.apart (h.goes a u g.0).link (sym r.0)) ]
+  ]
 
   module _ (law : Lawful N) (Hole : P → Type 0) (h : Conserved N F Hole) where
     pub bears-goes : (a u : P) → Goes N F a u → Bears N F a u (N.cost a u)

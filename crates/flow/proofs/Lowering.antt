@@ -2,6 +2,7 @@
 use Rattle.std.proofs.Common.{◌≡◌, ℕ, ◌+◌, ◌<◌, ◌≤◌, true, sym, ap, ◌∙◌, subst, inl, inr, arith}
 use Rattle.std.proofs.lemmas.Bool.{both_ways}
 use Rattle.flow.specs.Nets.{Net, Lawful, Flow, Bears, Reaches}
+use Rattle.flow.proofs.Bearing.{bears_itself}
 use Rattle.flow.specs.Fits.{Labels, Fits, NoHole}
 use Rattle.flow.specs.Seeks.{Why, Marks, Cause, Tells, Seeking, Offer, Lowers}
 
@@ -21,16 +22,8 @@ module _ {P : Type 0} (N : Net P) (law : Lawful N) (F : Flow P) (L : Labels P) (
 
   -- no label is lowered by itself
   unlike : (a u : P) (k c : ℕ) → Bears N F a u k → Reaches N a w c → v + k ≡ M.label u + c → v < M.label w → u ≡ w → ⊥
-  unlike a u k c b reach is low e = elim b.how [
-    | inl i ↦ elim reach [
-      | inl l ↦ law.apart l.0 (sym i.1 ∙ e)
-      | inr r ↦ omega (arith, ap M.label e)
-    ]
-    | inr g ↦ elim reach [
-      | inl l ↦ omega (arith, ap M.label e, ap (N.cost a) e, l.1, g.1)
-      | inr r ↦ law.apart (h.flow.goes a u g.0).link (sym (e ∙ r.0))
-    ]
-  ]
+  unlike a u k c b reach is low e =
+      omega (arith, ap M.label e, bears_itself N F law NoHole h.flow a u k c b (subst (λ z. Reaches N a z c) (sym e) reach))
 
   module _ (K : Marks P) (l : Lowers N F L M K w v y) (low : v < M.label w) where
     falls : (x : P) → K.label x ≤ M.label x

@@ -1,0 +1,24 @@
+-- Arrays of cells, and the network that they stand for. Assumes nothing.
+use Rattle.std.proofs.Common.{◌≡◌, ℕ, ◌+◌, ◌<◌, ◌≤◌, List, length, get_or, set, sym, subst, inl, inr, arith, get_or-set_other, get_or-set_same}
+use Rattle.std.proofs.lemmas.Bool.{cases_eq}
+use Rattle.flow.specs.Nets.{Lawful}
+use Rattle.router.specs.declared.board.Grid.{Grid}
+use Rattle.router.specs.Boards.{Down, net_of, Shape}
+
+pub lawful : (g : Grid) → Shape g → Lawful (net_of g)
+lawful g h = record {
+  same_or_not = cases_eq;
+  from = λ a. a.from;
+  to = λ a. a.to;
+  apart = λ a e. omega (arith, a.left);
+  not_last = λ a l. omega (arith, h.inside _ a.to, a.left);
+  not_first = λ a f. omega (arith, h.inside _ a.from, a.left);
+}
+
+-- what is set at u holds there, and elsewhere what held
+pub at_set : {A : Type 0} (xs : List A) (u x : ℕ) (v d : A) → u < length xs → (P : A → Type 0) →
+    (x ≡ u → P v) → ((x ≡ u → ⊥) → P (get_or xs x d)) → P (get_or (set xs u v) x d)
+at_set xs u x v d l P here other = elim (cases_eq x u) [
+  | inl e ↦ subst (λ z. P (get_or (set xs u v) z d)) (sym e) (subst P (sym (get_or-set_same xs u v d l)) (here e))
+  | inr n ↦ subst P (sym (get_or-set_other xs u x v d n)) (other n)
+]

@@ -1,0 +1,75 @@
+-- What a board stands for: a network of cells, a flow through it, and labels. Assumes nothing.
+use Rattle.std.specs.Prelude.{◌≡◌, ℕ, ◌+◌, ◌-◌, ◌<◌, ◌≤◌, true, false, cond, [], slice_index, slice_index_or, slice_set}
+use Rattle.flow.specs.Nets.{Net, Flow}
+use Rattle.flow.specs.Fits.{Labels as Potential, Fits, NoHole}
+use Rattle.plans.specs.Tolls.{worth}
+use Rattle.router.specs.declared.board.Grid.{Grid}
+use Rattle.router.specs.declared.board.Ways.{Ways}
+use Rattle.router.specs.declared.board.Labels.{Labels}
+use Rattle.router.specs.declared.board.Board.{Board}
+
+abbrev pub Usable : Grid → ℕ → Type 0
+Usable g u = slice_index_or g.usable u false ≡ true
+
+abbrev pub Used : Ways → ℕ → Type 0
+Used w u = slice_index_or w.used u false ≡ true
+
+-- a link goes from a usable cell to a usable cell of the next row, at most one column aside
+pub record Down (g : Grid) (u w : ℕ) : Type 0 where
+  pub from : Usable g u
+  pub to : Usable g w
+  pub left : u + 65 ≤ w
+  pub right : w ≤ u + 67
+
+abbrev pub net_of : Grid → Net ℕ
+net_of g = record {
+  Usable = Usable g;
+  First = λ u. u < 66;
+  Last = λ u. g.last ≤ u;
+  Link = Down g;
+  entry = λ u. slice_index g.entries u;
+  cost = λ u w. slice_index (slice_index_or g.links u []) (w - (u + 65));
+}
+
+abbrev pub flow_of : Ways → Flow ℕ
+flow_of w = record {
+  used = λ u. slice_index_or w.used u false;
+  next = λ u. slice_index w.next u;
+  prev = λ u. slice_index w.prev u;
+  charge = λ u. slice_index w.charge u;
+}
+
+abbrev pub labels_of : Labels → Potential ℕ
+labels_of l = record { into = λ u. slice_index l.into u; exit = l.exit }
+
+-- what a grid has to be: usable cells stand in its rows, but for their ends, and charges are at most 1,000
+pub record Shape (g : Grid) : Type 0 where
+  pub inside : (u : ℕ) → Usable g u → (1 ≤ u) × (u + 1 < g.last + 66)
+  pub rows : g.last ≤ 4158
+  pub entries : (u : ℕ) → slice_index g.entries u ≤ 1000
+  pub links : (u e : ℕ) → slice_index (slice_index_or g.links u []) e ≤ 1000
+
+-- the ways are whole, and the labels fit them
+pub record Standing (b : Board) : Type 0 where
+  pub shape : Shape b.grid
+  pub usable : (u : ℕ) → Used b.ways u → Usable b.grid u
+  pub fits : Fits (net_of b.grid) (flow_of b.ways) (labels_of b.labels) NoHole
+  pub low : (u : ℕ) → slice_index b.labels.into u ≤ b.labels.exit
+  pub top : b.labels.exit ≤ worth
+
+-- the cell that bears the label below a
+abbrev pub onward : Ways → ℕ → ℕ
+onward w a = cond (slice_index_or w.used a false) (slice_index w.next a) a
+
+-- the ways where the cell a is used and goes on to w, by a link of that charge
+abbrev pub linked : Ways → ℕ → ℕ → ℕ → Ways
+linked f a w charge = record {
+  used = slice_set f.used a true;
+  next = slice_set f.next a w;
+  prev = slice_set f.prev w a;
+  charge = slice_set f.charge w charge;
+}
+
+-- the ways where the cell w is used no more
+abbrev pub dropped : Ways → ℕ → Ways
+dropped f w = record f { used = slice_set f.used w false; prev = slice_set f.prev w w; charge = slice_set f.charge w 0 }
