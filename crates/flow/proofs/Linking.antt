@@ -6,7 +6,7 @@ use Rattle.flow.specs.Fits.{Labels, Comes, Fits}
 use Rattle.flow.specs.Moves.{Linked}
 
 module _ {P : Type 0} (N : Net P) (law : Lawful N) (G H : Flow P) (L : Labels P) (w : P) (h : Fits N G L (λ p. p ≡ w)) (here : G.used w ≡ true)
-    (a x : P) (k : ℕ) (link : N.Link a w) (b : Bears N G a x k) (is : L.into w + k ≡ L.into x + N.cost a w) (m : Linked N G H a w) where
+    (a x : P) (k : ℕ) (link : N.Link a w) (b : Bears N G a x k) (is : L.into w + k ≡ L.into x + N.cost a w) (m : Linked G H a w (N.cost a w)) where
   unlike : (p q : P) → G.used p ≡ false → G.used q ≡ true → p ≡ q → ⊥
   unlike p q f t e = both_ways (G.used p) f (ap G.used e ∙ t)
 

@@ -29,15 +29,15 @@ module _ {P : Type 0} (N : Net P) (law : Lawful N) (F : Flow P) (L : Labels P) (
   }
 
   -- the label above w comes from the one below a, which u bears, and is just that
-  record From (w a : P) : Type 0 where
-    u : P
-    k : ℕ
-    c : ℕ
-    bears : Bears N F a u k
-    reaches : Reaches N a w c
-    is : L.into w + k ≡ L.into u + c
-    early : M.stamp u < M.stamp w
-    reached : M.label u ≤ L.into u
+  pub record From (w a : P) : Type 0 where
+    pub u : P
+    pub k : ℕ
+    pub c : ℕ
+    pub bears : Bears N F a u k
+    pub reaches : Reaches N a w c
+    pub is : L.into w + k ≡ L.into u + c
+    pub early : M.stamp u < M.stamp w
+    pub reached : M.label u ≤ L.into u
 
   unsaid : (a : P) → source ≡ below a → ⊥
   unsaid a e = cc
@@ -49,7 +49,7 @@ module _ {P : Type 0} (N : Net P) (law : Lawful N) (F : Flow P) (L : Labels P) (
   cause : (b w : P) (k : ℕ) → Bears N F b w k → M.label w ≤ L.into w → Cause N F M w
   cause b w k bears reached = s.caused b w k bears (omega (arith, s.fits.labels.low w bears.to))
 
-  comes_from : (b w a : P) (j : ℕ) → Bears N F b w j → M.label w ≤ L.into w → M.why w ≡ below a → From w a
+  pub comes_from : (b w a : P) (j : ℕ) → Bears N F b w j → M.label w ≤ L.into w → M.why w ≡ below a → From w a
   comes_from b w a j borne reached says = elim (cause b w j borne reached) [
     | Cause.by_entry r f e ↦ absurd (unsaid a (sym r ∙ says))
     | Cause.by_place d u k c r bears reaches slack later ↦
@@ -76,7 +76,7 @@ module _ {P : Type 0} (N : Net P) (law : Lawful N) (F : Flow P) (L : Labels P) (
     ]
 
     module _ (a : P) (says : M.why w ≡ below a) where
-      abbrev from : From w a
+      abbrev pub from : From w a
       from = comes_from walk.bearer w a walk.gap walk.bears walk.reached says
 
       now : (G.used a ≡ F.used a) × (G.next a ≡ F.next a)
@@ -99,11 +99,14 @@ module _ {P : Type 0} (N : Net P) (law : Lawful N) (F : Flow P) (L : Labels P) (
           let one = bears_one N F a from.u x from.k k from.bears (subst (λ z. Bears N F z x k) i b) in
           omega (arith, ap M.stamp one.0)
 
-      module _ (H : Flow P) where
+      module _ (n : a ≡ w → ⊥) where
+        pub by_link : N.Link a w × (from.c ≡ N.cost a w)
+        by_link = elim from.reaches [ inl l ↦ l | inr r ↦ absurd (n (sym r.0)) ]
+
         -- A place a is linked to the hole.
-        pub links : (a ≡ w → ⊥) → Linked N G H a w → (let x = cond (G.used a) (G.next a) a in Walk N F L M H x × (M.stamp x < M.stamp w))
-        links n m =
-            let link : N.Link a w × (from.c ≡ N.cost a w) = elim from.reaches [ inl l ↦ l | inr r ↦ absurd (n (sym r.0)) ] in
+        pub links : (H : Flow P) → Linked G H a w (N.cost a w) → (let x = cond (G.used a) (G.next a) a in Walk N F L M H x × (M.stamp x < M.stamp w))
+        links H m =
+            let link = by_link in
             let is : L.into w + from.k ≡ L.into from.u + N.cost a w = omega (arith, from.is, link.1) in
             let to : from.u ≡ cond (G.used a) (G.next a) a = elim bears_now.how [
               | inl i ↦ i.1 ∙ sym (cond-false (G.used a) (G.next a) a i.0)
@@ -125,14 +128,18 @@ module _ {P : Type 0} (N : Net P) (law : Lawful N) (F : Flow P) (L : Labels P) (
               from.early,
             )
 
+    -- The flow goes on from the hole, if its reason is its own label below.
+    pub goes_on : (says : M.why w ≡ below w) → Goes N G w (from w says).u × ((from w says).k ≡ N.cost w (from w says).u)
+    goes_on says = elim (bears_now w says).how [
+      | inl i ↦ absurd (omega (arith, ap M.stamp i.1, (from w says).early))
+      | inr g ↦ g
+    ]
+
     -- The hole is dropped.
     pub drops : (H : Flow P) → M.why w ≡ below w → Dropped G H w → Walk N F L M H (G.next w) × (M.stamp (G.next w) < M.stamp w)
     drops H says m =
         let f = from w says in
-        let goes : Goes N G w f.u × (f.k ≡ N.cost w f.u) = elim (bears_now w says).how [
-          | inl i ↦ absurd (omega (arith, ap M.stamp i.1, f.early))
-          | inr g ↦ g
-        ] in
+        let goes = goes_on says in
         let here : f.c ≡ 0 = elim f.reaches [ inl l ↦ absurd (law.apart l.0 refl) | inr r ↦ r.1 ] in
         let first : N.First w → ⊥ = λ p. elim walk.bears.how [
           | inl i ↦ both_ways (F.used w) (ap F.used i.1 ∙ i.0) (sym (now w says).0 ∙ goes.0.used)

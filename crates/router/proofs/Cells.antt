@@ -1,9 +1,10 @@
 -- Arrays of cells, and the network that they stand for. Assumes nothing.
-use Rattle.std.proofs.Common.{◌≡◌, ℕ, ◌+◌, ◌<◌, ◌≤◌, List, length, get_or, set, sym, subst, inl, inr, arith, get_or-set_other, get_or-set_same}
-use Rattle.std.proofs.lemmas.Bool.{cases_eq}
+use Rattle.std.proofs.Common.{◌≡◌, ℕ, ◌<◌, List, length, get_or, set, replicate, sym, subst, inl, inr, arith, get_or-set_other, get_or-set_same}
+use Rattle.std.proofs.lemmas.Bool.{cases_eq, cases_lt}
+use Rattle.std.proofs.lemmas.List.{get_or-replicate, get_or_past, length-replicate}
 use Rattle.flow.specs.Nets.{Lawful}
 use Rattle.router.specs.declared.board.Grid.{Grid}
-use Rattle.router.specs.Boards.{Down, net_of, Shape}
+use Rattle.router.specs.Boards.{net_of, Shape}
 
 pub lawful : (g : Grid) → Shape g → Lawful (net_of g)
 lawful g h = record {
@@ -21,4 +22,11 @@ pub at_set : {A : Type 0} (xs : List A) (u x : ℕ) (v d : A) → u < length xs 
 at_set xs u x v d l P here other = elim (cases_eq x u) [
   | inl e ↦ subst (λ z. P (get_or (set xs u v) z d)) (sym e) (subst P (sym (get_or-set_same xs u v d l)) (here e))
   | inr n ↦ subst P (sym (get_or-set_other xs u x v d n)) (other n)
+]
+
+-- an array of one value reads as that value everywhere
+pub get_or-replicate_same : {A : Type 0} (n k : ℕ) (d : A) → get_or (replicate n d) k d ≡ d
+get_or-replicate_same n k d = elim (cases_lt k n) [
+  | inl l ↦ get_or-replicate n k d d l
+  | inr l ↦ get_or_past (replicate n d) k d (rw length-replicate l)
 ]

@@ -1,4 +1,9 @@
 pub mod Sums
 pub mod Cells
+pub mod Starts
+pub mod Begins
 pub mod Lowers
 pub mod Scans
+pub mod Raises
+pub mod Moves
+pub mod Lows

@@ -1,9 +1,9 @@
 -- A label on trial is lowered, on arrays. Assumes nothing.
-use Rattle.std.proofs.Common.{◌≡◌, ℕ, ◌+◌, ◌*◌, ◌<◌, ◌≤◌, Bool, true, false, cond, eqb, length, get_or, set, sym, refl, ap, ap₂, ◌∙◌, subst, inl, inr, arith, get_or-set_other, get_or-set_same}
+use Rattle.std.proofs.Common.{◌≡◌, ℕ, ◌+◌, ◌*◌, ◌<◌, ◌≤◌, true, false, cond, eqb, length, get_or, set, sym, refl, ap, ap₂, ◌∙◌, subst, arith, get_or-set_other, get_or-set_same}
 use Rattle.std.proofs.lemmas.Bool.{both_ways, true_from_ne_false, cond-true, cond-false, eq-eqb, ne_eqb}
 use Rattle.flow.specs.Nets.{Net, Flow}
 use Rattle.flow.specs.Fits.{Labels}
-use Rattle.flow.specs.Seeks.{Marks, Seeking, Offer, Closer, Lowers}
+use Rattle.flow.specs.Seeks.{Marks, Offer, Closer, Lowers}
 use Rattle.flow.proofs.Lowering as Lowering
 use Rattle.plans.specs.Tolls.{worth}
 use Rattle.router.specs.declared.search.Why.{Why}
@@ -11,7 +11,7 @@ use Rattle.router.specs.declared.search.Why.TheVariants.{Entry}
 use Rattle.router.specs.declared.search.Search.{Search}
 use Rattle.router.specs.declared.board.Board.{Board}
 use Rattle.router.specs.Boards.{Usable, net_of, flow_of, labels_of}
-use Rattle.router.specs.Searches.{Seeks, Falls, Lowered, marks_of, label_of, reason, work}
+use Rattle.router.specs.Searches.{Seeks, Falls, Lowered, marks_of, label_of, reason}
 use Rattle.router.proofs.Sums.{sum_below-set}
 use Rattle.router.proofs.Cells.{lawful, at_set}
 
@@ -81,10 +81,10 @@ module _ (b : Board) (s : Search) (h : Seeks b s) (w v : ℕ) (y : Why)
     falls = record {
       labels = λ x. at_set s.label w x v 0 (omega (arith, inside)) (λ i. i ≤ label_of s x) (λ e. omega (arith, ap (label_of s) e)) (λ n. omega arith);
       work =
-        let changed = sum_below-set 4290 (λ u. 2 * label_of s u + cond (get_or s.waits u false) 1 0) (λ u. 2 * label_of z u + cond (get_or z.waits u false) 1 0) w inside
-            (λ i l n. ap₂ (λ j c. 2 * j + cond c 1 0) (get_or-set_other s.label w i v 0 n) (get_or-set_other s.waits w i true false n)) in
-        let now : 2 * label_of z w + cond (get_or z.waits w false) 1 0 ≡ 2 * v + 1 = ap₂ (λ j c. 2 * j + cond c 1 0) lowers.label lowers.waits in
-        omega (arith, changed, now);
+          let changed = sum_below-set 4290 (λ u. 2 * label_of s u + cond (get_or s.waits u false) 1 0) (λ u. 2 * label_of z u + cond (get_or z.waits u false) 1 0) w inside
+          (λ i l n. ap₂ (λ j c. 2 * j + cond c 1 0) (get_or-set_other s.label w i v 0 n) (get_or-set_other s.waits w i true false n)) in
+          let now : 2 * label_of z w + cond (get_or z.waits w false) 1 0 ≡ 2 * v + 1 = ap₂ (λ j c. 2 * j + cond c 1 0) lowers.label lowers.waits in
+          omega (arith, changed, now);
     }
 
     lowered : Lowered s z w v

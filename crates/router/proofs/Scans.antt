@@ -1,18 +1,17 @@
 -- A cell is scanned, on arrays. Assumes nothing.
-use Rattle.std.proofs.Common.{◌≡◌, ℕ, ◌+◌, ◌-◌, ◌*◌, ◌<◌, ◌≤◌, Bool, true, false, cond, [], length, get_or, set, sym, refl, ap, ◌∙◌, subst, inl, inr, arith, get_or-set_other, get_or-set_same}
+use Rattle.std.proofs.Common.{◌≡◌, ℕ, ◌+◌, ◌-◌, ◌*◌, ◌<◌, ◌≤◌, true, false, cond, [], length, get_or, set, sym, refl, ap, ◌∙◌, subst, inl, inr, arith, get_or-set_other, get_or-set_same}
 use Rattle.std.proofs.lemmas.Bool.{cases_eq, both_ways}
 use Rattle.flow.specs.Nets.{Net, Flow, Bears, Reaches}
-use Rattle.flow.specs.Fits.{Labels, NoHole}
-use Rattle.flow.specs.Seeks.{Marks, Offer}
+use Rattle.flow.specs.Fits.{NoHole}
+use Rattle.flow.specs.Seeks.{Offer}
 use Rattle.flow.proofs.Bearing as Bearing
 use Rattle.flow.proofs.Scanning as Scanning
 use Rattle.plans.specs.Tolls.{worth}
-use Rattle.router.specs.declared.search.Why.{Why}
 use Rattle.router.specs.declared.search.Why.TheVariants.{Below}
 use Rattle.router.specs.declared.search.Search.{Search}
 use Rattle.router.specs.declared.board.Board.{Board}
 use Rattle.router.specs.Boards.{Down, Usable, net_of, flow_of, labels_of}
-use Rattle.router.specs.Searches.{Seeks, EnteredTo, Begun, Falls, Lowered, marks_of, label_of, reason, work}
+use Rattle.router.specs.Searches.{Seeks, Begun, Falls, Lowered, marks_of, label_of, reason, work}
 use Rattle.router.proofs.Sums.{sum_below-set}
 use Rattle.router.proofs.Cells.{lawful, at_set}
 
@@ -149,10 +148,10 @@ module _ (b : Board) (s : Search) (h : Begun b s) (u : ℕ) (waits : get_or s.wa
     pub less : work done < work s
     less =
         let changed = sum_below-set 4290 (λ x. 2 * label_of z x + cond (get_or z.waits x false) 1 0) (λ x. 2 * label_of z x + cond (get_or done.waits x false) 1 0) u inside
-            (λ i l n. ap (λ c. 2 * label_of z i + cond c 1 0) (get_or-set_other z.waits u i false false n)) in
+        (λ i l n. ap (λ c. 2 * label_of z i + cond c 1 0) (get_or-set_other z.waits u i false false n)) in
         let was : 2 * label_of z u + cond (get_or z.waits u false) 1 0 ≡ 2 * label_of z u + 1 = ap (λ c. 2 * label_of z u + cond c 1 0) p.kept.still in
         let now : 2 * label_of z u + cond (get_or done.waits u false) 1 0 ≡ 2 * label_of z u =
-            ap (λ c. 2 * label_of z u + cond c 1 0) (get_or-set_same z.waits u false false (omega (arith, inside))) ∙ (omega arith) in
+        ap (λ c. 2 * label_of z u + cond c 1 0) (get_or-set_same z.waits u false false (omega (arith, inside))) ∙ (omega arith) in
         omega (arith, changed, was, now, p.kept.falls.work)
 
     heard : (w c : ℕ) → Reaches N a w c → label_of z w + gap ≤ label_of z u + c

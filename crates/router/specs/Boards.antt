@@ -1,5 +1,5 @@
 -- What a board stands for: a network of cells, a flow through it, and labels. Assumes nothing.
-use Rattle.std.specs.Prelude.{◌≡◌, ℕ, ◌+◌, ◌-◌, ◌<◌, ◌≤◌, true, false, cond, [], slice_index, slice_index_or, slice_set}
+use Rattle.std.specs.Prelude.{◌≡◌, ℕ, ◌+◌, ◌-◌, ◌<◌, ◌≤◌, true, false, cond, [], slice_index, slice_index_or}
 use Rattle.flow.specs.Nets.{Net, Flow}
 use Rattle.flow.specs.Fits.{Labels as Potential, Fits, NoHole}
 use Rattle.plans.specs.Tolls.{worth}
@@ -60,16 +60,3 @@ pub record Standing (b : Board) : Type 0 where
 -- the cell that bears the label below a
 abbrev pub onward : Ways → ℕ → ℕ
 onward w a = cond (slice_index_or w.used a false) (slice_index w.next a) a
-
--- the ways where the cell a is used and goes on to w, by a link of that charge
-abbrev pub linked : Ways → ℕ → ℕ → ℕ → Ways
-linked f a w charge = record {
-  used = slice_set f.used a true;
-  next = slice_set f.next a w;
-  prev = slice_set f.prev w a;
-  charge = slice_set f.charge w charge;
-}
-
--- the ways where the cell w is used no more
-abbrev pub dropped : Ways → ℕ → Ways
-dropped f w = record f { used = slice_set f.used w false; prev = slice_set f.prev w w; charge = slice_set f.charge w 0 }

@@ -1,5 +1,5 @@
 -- What a walk keeps. Assumes nothing.
-use Rattle.std.specs.Prelude.{◌≡◌, ℕ, ◌+◌, ◌<◌, ◌≤◌, false, cond, Option, MatchOption, nat_lt, slice_index, slice_index_or}
+use Rattle.std.specs.Prelude.{◌≡◌, ℕ, ◌<◌, ◌≤◌, false, cond, Option, MatchOption, nat_lt, slice_index, slice_index_or}
 use Rattle.flow.specs.Nets.{Flow}
 use Rattle.flow.specs.Walks.{Settled, Walk}
 use Rattle.plans.specs.Tolls.{worth, sum_below}
@@ -32,3 +32,8 @@ Stepped b s n next = MatchOption next (Standing b) (λ x. Walks b s x n)
 -- how many cells of the last row are not used
 abbrev pub spare : Board → ℕ
 spare b = sum_below 4290 (λ u. cond (nat_lt u b.grid.last) 0 (cond (slice_index_or b.ways.used u false) 0 1))
+
+-- only ways are changed, and as few cells of the last row are used
+pub record Rerouted (b z : Board) : Type 0 where
+  pub spare : spare z ≡ spare b
+  pub others : z ≡ record b { ways = z.ways }

@@ -1,6 +1,7 @@
 //! A grid of cells, ways through it, and labels on them.
-ghost use Rattle.std.specs.Prelude.{◌≡◌, ◌<◌, true, false, cond, slice_index, slice_index_or, slice_set};
-ghost use Rattle.router.specs.Boards.{Shape, Standing, linked, dropped, onward};
+ghost use Rattle.std.specs.Prelude.{◌≡◌, ◌<◌, slice_index};
+ghost use Rattle.flow.specs.Moves.{Opened, Linked, Dropped};
+ghost use Rattle.router.specs.Boards.{Shape, Standing, flow_of, onward};
 
 /// How many cells stand in a row: one for each of 64 columns, and one at either end that is never usable.
 pub const ROW: usize = 66;
@@ -63,11 +64,19 @@ impl Board {
 }
 
 impl Ways {
+    /// Has the cell `e` used.
+    pub fn open(&mut self, e: usize)
+        requires { e < CELLS }
+        ensures { Opened (flow_of self.old) (flow_of self.new) e }
+    {
+        self.used[e] = true;
+    }
+
     /// Has the cell `a` used and go on to `w`; answers the cell that bore the label below `a` until now.
     pub fn link(&mut self, a: usize, w: usize, charge: u16) -> usize
         requires inside { a < CELLS }
         requires hole { w < CELLS }
-        ensures ways { self.new ≡ linked self.old a w charge }
+        ensures ways { Linked (flow_of self.old) (flow_of self.new) a w charge }
         ensures onward { result ≡ onward self.old a }
     {
         let onward = if self.used[a] {
@@ -85,7 +94,7 @@ impl Ways {
     /// Has the cell `w` used no more; answers where it went on.
     pub fn drop(&mut self, w: usize) -> usize
         requires { w < CELLS }
-        ensures ways { self.new ≡ dropped self.old w }
+        ensures ways { Dropped (flow_of self.old) (flow_of self.new) w }
         ensures onward { result ≡ slice_index self.old.next w }
     {
         self.used[w] = false;

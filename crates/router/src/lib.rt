@@ -6,8 +6,8 @@ ghost use Rattle.router.specs.Boards.{Shape, Standing};
 
 pub mod board;
 pub mod search;
-pub mod toll;
 mod settle;
+pub mod toll;
 mod walk;
 
 use board::Board;

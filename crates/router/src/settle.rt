@@ -1,9 +1,10 @@
 //! Labels are settled again, as high as the ways allow.
-ghost use Rattle.std.specs.Prelude.{◌≡◌, ℕ, ◌<◌};
+ghost use Rattle.std.specs.Prelude.{◌≡◌, ℕ, ◌+◌, ◌<◌, ◌≤◌, min, slice_index};
+ghost use Rattle.plans.specs.Tolls.{worth};
 ghost use Rattle.router.specs.Boards.{Standing};
-ghost use Rattle.router.specs.Searches.{Begun, RestsAt, Settled};
+ghost use Rattle.router.specs.Searches.{Settled};
 
-use crate::board::{Board, CELLS};
+use crate::board::{Board, CELLS, Labels};
 use crate::search::Search;
 
 /// Settles the labels.
@@ -14,18 +15,18 @@ pub fn settle(board: &mut Board, search: &mut Search)
 {
     search.begin(board);
     search.rest(board);
-    raise(board, search);
+    raise(&mut board.labels, search);
 }
 
 // Raises the labels as far as the exit may rise, but where the label on trial is lower.
-fn raise(board: &mut Board, search: &Search)
-    requires begun { Begun board.old search.now }
-    requires rests { (u : ℕ) → u < CELLS → RestsAt board.old search.now u }
-    ensures settled { Settled board.new search.now }
-    ensures others { board.new ≡ record board.old { labels = board.new.labels } }
+fn raise(labels: &mut Labels, search: &Search)
+    requires low { (u : ℕ) → slice_index labels.old.into u ≤ labels.old.exit }
+    requires top { labels.old.exit + search.now.rise ≤ worth }
+    ensures into { (u : ℕ) → slice_index labels.new.into u ≡ min (slice_index search.now.label u) (slice_index labels.old.into u + search.now.rise) }
+    ensures exit { labels.new.exit ≡ labels.old.exit + search.now.rise }
 {
     for u in 0..CELLS {
-        board.labels.into[u] = search.label[u].min(board.labels.into[u] + search.rise);
+        labels.into[u] = search.label[u].min(labels.into[u] + search.rise);
     }
-    board.labels.exit += search.rise;
+    labels.exit += search.rise;
 }

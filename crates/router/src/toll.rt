@@ -6,6 +6,7 @@ ghost use Rattle.router.specs.Tolls.{toll_of};
 use crate::board::{Board, CELLS};
 
 /// The toll of the cell `u`: how far it raises its label, if it is used.
+#[tactic(auto, using(crate::proofs::Lows::next_inside, crate::proofs::Lows::next_high))]
 pub fn toll(board: &Board, u: usize) -> u32
     requires standing { Standing board.now }
     requires inside { u < CELLS }

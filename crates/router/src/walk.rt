@@ -3,7 +3,7 @@ ghost use Rattle.std.specs.Prelude.{◌≡◌, ℕ, ◌+◌, ◌<◌};
 ghost use Rattle.plans.specs.Tolls.{worth};
 ghost use Rattle.router.specs.Boards.{Standing};
 ghost use Rattle.router.specs.Searches.{Settled};
-ghost use Rattle.router.specs.Walking.{Walks, Stepped, spare};
+ghost use Rattle.router.specs.Walking.{Walks, Stepped, Rerouted, spare};
 
 use crate::board::{Board, CELLS};
 use crate::search::{Search, Why};
@@ -16,7 +16,7 @@ pub fn augment(board: &mut Board, search: &Search)
     ensures fewer { spare board.new < spare board.old }
     ensures others { board.new ≡ record board.old { ways = board.new.ways } }
 {
-    board.ways.used[search.last] = true;
+    board.ways.open(search.last);
     finish(board, search, search.last);
 }
 
@@ -24,8 +24,7 @@ pub fn augment(board: &mut Board, search: &Search)
 fn finish(board: &mut Board, search: &Search, w: usize)
     requires { Walks board.old search.now w CELLS }
     ensures standing { Standing board.new }
-    ensures same { spare board.new ≡ spare board.old }
-    ensures others { board.new ≡ record board.old { ways = board.new.ways } }
+    ensures others { Rerouted board.old board.new }
 {
     let mut hole = w;
     for _ in 0..CELLS {
@@ -40,8 +39,7 @@ fn finish(board: &mut Board, search: &Search, w: usize)
 fn step(board: &mut Board, search: &Search, w: usize) -> Option<usize>
     requires { (n : ℕ) × Walks board.old search.now w (n + 1) }
     ensures steps { (n : ℕ) → Walks board.old search.now w (n + 1) → Stepped board.new search.now n result }
-    ensures same { spare board.new ≡ spare board.old }
-    ensures others { board.new ≡ record board.old { ways = board.new.ways } }
+    ensures others { Rerouted board.old board.new }
 {
     match search.why[w] {
         Why::Entry => None,

@@ -8,5 +8,5 @@ tell-requires-clause-high c = Lowers.high _ _ c.requires.seeks _ _ _ c.requires.
 pub returns-then-v-self : goal.returns-then-v-self
 returns-then-v-self c =
     let told = Lowers.told _ _ c.requires.seeks _ _ c.args.why c.requires.offer c.if-v-self.true
-        (omega arith) (omega arith) (omega arith) _ c.tell.ensures.others c.tell.ensures.closer in
+    (omega arith) (omega arith) (omega arith) _ c.tell.ensures.others c.tell.ensures.closer in
     record { seeks = told.0; lowered = told.1 }
