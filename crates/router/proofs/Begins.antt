@@ -8,7 +8,7 @@ use Rattle.router.specs.declared.search.Search.{Search}
 use Rattle.router.specs.declared.board.Board.{Board}
 use Rattle.router.specs.Boards.{Usable, Used, net_of, flow_of, labels_of, Standing}
 use Rattle.router.specs.Searches.{Seeks, label_of, marks_of}
-use Rattle.router.proofs.Cells.{lawful, at_set}
+use Rattle.router.proofs.Cells.{within, lawful, at_set}
 
 -- Nothing is lowered yet.
 module _ (b : Board) (h : Standing b) (s : Search) (long : length s.label ≡ 4290)
@@ -23,7 +23,7 @@ module _ (b : Board) (h : Standing b) (s : Search) (long : length s.label ≡ 42
     stamp = λ u. 0;
     clock = 0;
     seeking = Starting.blank (net_of b.grid) (lawful b.grid h.shape) (flow_of b.ways) (labels_of b.labels) worth h.fits (marks_of s (λ u. 0) 0) (record {
-      label = λ u ok. is u (omega (arith, h.shape.inside u ok, h.shape.rows)) ∙ cond-true (get_or b.grid.usable u false) worth 0 ok;
+      label = λ u ok. is u (omega (arith, within b.grid h.shape u ok)) ∙ cond-true (get_or b.grid.usable u false) worth 0 ok;
       waits = λ u ok. off u;
       stamp = λ u ok. omega arith;
       rise = omega (arith, h.top);

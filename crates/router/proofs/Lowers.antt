@@ -13,7 +13,7 @@ use Rattle.router.specs.declared.board.Board.{Board}
 use Rattle.router.specs.Boards.{Usable, net_of, flow_of, labels_of}
 use Rattle.router.specs.Searches.{Seeks, Falls, Lowered, marks_of, label_of, reason}
 use Rattle.router.proofs.Sums.{sum_below-set}
-use Rattle.router.proofs.Cells.{lawful, at_set}
+use Rattle.router.proofs.Cells.{within, lawful, at_set}
 
 -- the search after the label on trial of w is lowered
 abbrev pub after : Search → ℕ → ℕ → Why → ℕ → ℕ → Search
@@ -46,7 +46,7 @@ module _ (b : Board) (s : Search) (h : Seeks b s) (w v : ℕ) (y : Why)
   high = Lowering.offer_high N (lawful b.grid h.standing.shape) F L worth h.standing.fits M h.seeking w v (reason y) (offer usable)
 
   inside : w < 4290
-  inside = omega (arith, h.standing.shape.inside w usable, h.standing.shape.rows)
+  inside = omega (arith, within b.grid h.standing.shape w usable)
 
   module _ (long : length s.label ≡ 4290) (waits_long : length s.waits ≡ 4290) (why_long : length s.why ≡ 4290) (rise last : ℕ)
       (closer : Closer N F L w v s.rise s.last rise last) where

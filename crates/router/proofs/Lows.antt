@@ -5,7 +5,7 @@ use Rattle.flow.specs.Fits.{NoHole}
 use Rattle.flow.proofs.Bearing as Bearing
 use Rattle.router.specs.declared.board.Board.{Board}
 use Rattle.router.specs.Boards.{Used, net_of, flow_of, labels_of, Standing}
-use Rattle.router.proofs.Cells.{lawful}
+use Rattle.router.proofs.Cells.{within, lawful}
 
 -- a used cell above the last row goes on to a cell whose label pays for the link and for its own label
 module _ (b : Board) (h : Standing b) (u : ℕ) (used : Used b.ways u) (above : u < b.grid.last) where
@@ -16,7 +16,7 @@ module _ (b : Board) (h : Standing b) (u : ℕ) (used : Used b.ways u) (above : 
   goes = record { usable = h.usable u used; used = used; not_last = λ l. omega (arith, l); to = refl }
 
   pub next_inside : next < 4290
-  next_inside = omega (arith, h.shape.inside next (h.fits.flow.goes u next goes).link.to, h.shape.rows)
+  next_inside = omega (arith, within b.grid h.shape next (h.fits.flow.goes u next goes).link.to)
 
   pub next_high : get_or b.labels.into u 0 + get_or b.ways.charge next 0 ≤ get_or b.labels.into next 0
   next_high =

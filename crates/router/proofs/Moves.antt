@@ -11,6 +11,7 @@ use Rattle.plans.specs.Tolls.{worth}
 use Rattle.plans.proofs.Sums.{sum_below-same, sum_below_ones}
 use Rattle.router.specs.declared.search.Why.TheVariants.{Entry, Below}
 use Rattle.router.specs.declared.search.Search.{Search}
+use Rattle.router.specs.declared.board.TheConstants.{ROW}
 use Rattle.router.specs.declared.board.Grid.{Grid}
 use Rattle.router.specs.declared.board.Ways.{Ways}
 use Rattle.router.specs.declared.board.Board.{Board}
@@ -18,7 +19,7 @@ use Rattle.router.specs.Boards.{Down, Usable, Used, net_of, flow_of, labels_of, 
 use Rattle.router.specs.Searches.{Settled, marks_of, reason}
 use Rattle.router.specs.Walking.{Walks, Rerouted, earlier, spare}
 use Rattle.router.proofs.Sums.{sum_below-set, sum_below-less}
-use Rattle.router.proofs.Cells.{lawful}
+use Rattle.router.proofs.Cells.{within, lawful}
 
 -- fewer cells are earlier than one that is earlier
 fewer : (stamp : ℕ → ℕ) (x w : ℕ) → x < 4290 → stamp x < stamp w → earlier stamp x < earlier stamp w
@@ -63,11 +64,8 @@ module _ (b : Board) (s : Search) (w n : ℕ) (h : Walks b s w (n + 1)) where
   abbrev G : Flow ℕ
   G = flow_of b.ways
 
-  within : (u : ℕ) → Usable b.grid u → u < 4223
-  within u ok = omega (arith, h.shape.inside u ok, h.shape.rows)
-
   pub inside : w < 4290
-  inside = omega (arith, within w h.walk.bears.to)
+  inside = omega (arith, within b.grid h.shape w h.walk.bears.to)
 
   -- the walk goes on at x
   on : (f : Ways) (x : ℕ) → ((u : ℕ) → Used f u → Usable b.grid u) → Walk N h.before L M (flow_of f) x × (h.stamp x < h.stamp w) →
@@ -82,7 +80,7 @@ module _ (b : Board) (s : Search) (w n : ℕ) (h : Walks b s w (n + 1)) where
     clock = h.clock;
     settled = h.settled;
     walk = walk.0;
-    few = omega (arith, fewer h.stamp x w (omega (arith, within x walk.0.bears.to)) walk.1, h.few);
+    few = omega (arith, fewer h.stamp x w (omega (arith, within b.grid h.shape x walk.0.bears.to)) walk.1, h.few);
   }
 
   -- a change above the last row
@@ -111,8 +109,8 @@ module _ (b : Board) (s : Search) (w n : ℕ) (h : Walks b s w (n + 1)) where
       by_link : Down b.grid a w
       by_link = (Walking.by_link N (lawful b.grid h.shape) h.before L worth M h.settled h.room G w h.walk a told ne).0
 
-      pub link_inside : (a < 4158) × (a + 65 ≤ w) × (w ≤ a + 67)
-      link_inside = (omega (arith, h.shape.inside w by_link.to, by_link.left, h.shape.rows), by_link.left, by_link.right)
+      pub link_inside : (a < 4223) × (a + ROW ≤ w + 1) × (w ≤ a + ROW + 1)
+      link_inside = (omega (arith, within b.grid h.shape a by_link.from), by_link.left, by_link.right)
 
       module _ (f : Ways) (m : Linked G (flow_of f) a w (N.cost a w)) where
         pub links : (x : ℕ) → x ≡ onward b.ways a → Walks (record b { ways = f }) s x n
@@ -122,7 +120,7 @@ module _ (b : Board) (s : Search) (w n : ℕ) (h : Walks b s w (n + 1)) where
 
         pub link_others : Rerouted b (record b { ways = f })
         link_others =
-            let low : a < b.grid.last = omega (arith, h.shape.inside w by_link.to, by_link.left) in
+            let low : a < b.grid.last = omega (arith, within b.grid h.shape w by_link.to, by_link.left) in
             record { spare = still (record b { ways = f }) a refl low m.used_else; others = refl }
 
     -- The hole is dropped.
@@ -151,7 +149,7 @@ module _ (b : Board) (s : Search) (h : Settled b s) (room : b.labels.exit < wort
   ready = h.settled.ready room
 
   pub last_inside : s.last < 4223
-  last_inside = omega (arith, h.standing.shape.inside s.last ready.usable, h.standing.shape.rows)
+  last_inside = omega (arith, within b.grid h.standing.shape s.last ready.usable)
 
   module _ (f : Ways) (m : Opened (flow_of b.ways) (flow_of f) s.last) where
     pub begins : Walks (record b { ways = f }) s s.last 4290

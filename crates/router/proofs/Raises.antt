@@ -11,6 +11,7 @@ use Rattle.router.specs.declared.board.Labels.{Labels}
 use Rattle.router.specs.declared.board.Board.{Board}
 use Rattle.router.specs.Boards.{net_of, flow_of, labels_of}
 use Rattle.router.specs.Searches.{Begun, RestsAt, Settled, label_of, marks_of}
+use Rattle.router.proofs.Cells.{within}
 
 -- what holds of each cell holds past the last one too
 pub everywhere : (into label old : List ℕ) (rise : ℕ) → length into ≡ 4290 → length label ≡ 4290 →
@@ -29,7 +30,7 @@ module _ (b : Board) (s : Search) (h : Begun b s) (rests : (u : ℕ) → u < 429
   closed : SettledLabels (net_of b.grid) (flow_of b.ways) (raised (labels_of b.labels) M) worth M
   closed = Closing.closed (net_of b.grid) (flow_of b.ways) (labels_of b.labels) worth h.seeks.standing.fits M h.seeks.seeking
       (λ u ok first. h.entered u ok first)
-      (λ u ok waits. rests u (omega (arith, h.seeks.standing.shape.inside u ok, h.seeks.standing.shape.rows)) waits)
+      (λ u ok waits. rests u (omega (arith, within b.grid h.seeks.standing.shape u ok)) waits)
 
   as_arrays : raised (labels_of b.labels) M ≡ labels_of l
   as_arrays = λ i. record { into = λ k. sym (into k) i; exit = sym exit i }

@@ -9,11 +9,12 @@ use Rattle.flow.proofs.Scanning as Scanning
 use Rattle.plans.specs.Tolls.{worth}
 use Rattle.router.specs.declared.search.Why.TheVariants.{Below}
 use Rattle.router.specs.declared.search.Search.{Search}
+use Rattle.router.specs.declared.board.TheConstants.{ROW}
 use Rattle.router.specs.declared.board.Board.{Board}
 use Rattle.router.specs.Boards.{Down, Usable, net_of, flow_of, labels_of}
 use Rattle.router.specs.Searches.{Seeks, Begun, Falls, Lowered, marks_of, label_of, reason, work}
 use Rattle.router.proofs.Sums.{sum_below-set}
-use Rattle.router.proofs.Cells.{lawful, at_set}
+use Rattle.router.proofs.Cells.{within, lawful, at_set}
 
 module _ (b : Board) (s : Search) (h : Begun b s) (u : ℕ) (waits : get_or s.waits u false ≡ true) where
   abbrev N : Net ℕ
@@ -35,13 +36,13 @@ module _ (b : Board) (s : Search) (h : Begun b s) (u : ℕ) (waits : get_or s.wa
   usable = h.seeks.waiting u waits
 
   pub inside : u < 4290
-  inside = omega (arith, h.seeks.standing.shape.inside u usable, h.seeks.standing.shape.rows)
+  inside = omega (arith, within b.grid h.seeks.standing.shape u usable)
 
   bears : Bears N F a u gap
   bears = Bearing.bears_prev N F (lawful b.grid h.seeks.standing.shape) NoHole h.seeks.standing.fits.flow u usable (h.seeks.seeking.waiting u usable waits) (λ x. x)
 
   pub a_inside : a < 4223
-  a_inside = omega (arith, h.seeks.standing.shape.inside a bears.from, h.seeks.standing.shape.rows)
+  a_inside = omega (arith, within b.grid h.seeks.standing.shape a bears.from)
 
   -- the label below a is not negative
   pub enough : gap ≤ label_of s u
@@ -79,15 +80,15 @@ module _ (b : Board) (s : Search) (h : Begun b s) (u : ℕ) (waits : get_or s.wa
     pub itself : (y : Search) → Lowered z y a base → Kept y
     itself y l = more y a 0 (subst (Lowered z y a) (omega arith) l) (not_itself a 0 (inr (refl, refl)))
 
-    module _ (w e : ℕ) (at : w ≡ a + 65 + e) (three : e < 3) where
+    module _ (w e : ℕ) (at : w + 1 ≡ a + ROW + e) (three : e < 3) where
       reaches : Usable b.grid w → Reaches N a w (link e)
       reaches ok =
-          let place : w - (a + 65) ≡ e = omega arith in
+          let place : w + 1 - (a + ROW) ≡ e = omega arith in
           inl (record { from = bears.from; to = ok; left = omega arith; right = omega arith }, ap link (sym place))
 
       pub offer_below : Usable b.grid w → Offer N F (label_of z) w (base + link e) (reason (Below a))
       offer_below ok = Offer.by_place a u gap (link e) refl bears (reaches ok) (omega (arith, k.same, enough))
-          (λ first. absurd (omega (arith, h.seeks.standing.shape.inside a bears.from)))
+          (λ first. absurd (omega (arith, within b.grid h.seeks.standing.shape a bears.from)))
 
       pub below : (y : Search) → Lowered z y w (base + link e) → Kept y
       below y l = more y w (link e) l (λ i. not_itself w (link e) (reaches (subst (Usable b.grid) i usable)) i)
@@ -97,7 +98,7 @@ module _ (b : Board) (s : Search) (h : Begun b s) (u : ℕ) (waits : get_or s.wa
     pub kept : Kept z
     pub seeks : Seeks b z
     pub itself : label_of z a ≤ base
-    pub below : (w : ℕ) → Down b.grid a w → label_of z w ≤ base + link (w - (a + 65))
+    pub below : (w : ℕ) → Down b.grid a w → label_of z w ≤ base + link (w + 1 - (a + ROW))
 
   -- in the last row that is a itself
   pub passed_last : (z : Search) → Lowered s z a base → Seeks b z → b.grid.last ≤ a → Passed z
@@ -105,39 +106,39 @@ module _ (b : Board) (s : Search) (h : Begun b s) (u : ℕ) (waits : get_or s.wa
     kept = itself s kept z l;
     seeks = seeks;
     itself = l.low;
-    below = λ w d. absurd (omega (arith, h.seeks.standing.shape.inside w d.to, d.left));
+    below = λ w d. absurd (omega (arith, within b.grid h.seeks.standing.shape w d.to, d.left));
   }
 
   module _ (s1 : Search) (l : Lowered s s1 a base) where
     pub kept1 : Kept s1
     kept1 = itself s kept s1 l
 
-    module _ (s2 : Search) (l0 : Lowered s1 s2 (a + 65) (base + link 0)) where
+    module _ (s2 : Search) (l0 : Lowered s1 s2 (a + ROW - 1) (base + link 0)) where
       pub kept2 : Kept s2
-      kept2 = below s1 kept1 (a + 65) 0 (omega arith) (omega arith) s2 l0
+      kept2 = below s1 kept1 (a + ROW - 1) 0 (omega arith) (omega arith) s2 l0
 
-      module _ (s3 : Search) (l1 : Lowered s2 s3 (a + 66) (base + link 1)) where
+      module _ (s3 : Search) (l1 : Lowered s2 s3 (a + ROW) (base + link 1)) where
         pub kept3 : Kept s3
-        kept3 = below s2 kept2 (a + 66) 1 (omega arith) (omega arith) s3 l1
+        kept3 = below s2 kept2 (a + ROW) 1 (omega arith) (omega arith) s3 l1
 
-        module _ (z : Search) (l2 : Lowered s3 z (a + 67) (base + link 2)) (seeks : Seeks b z) where
+        module _ (z : Search) (l2 : Lowered s3 z (a + ROW + 1) (base + link 2)) (seeks : Seeks b z) where
           pub passed_on : Passed z
           passed_on = record {
-            kept = below s3 kept3 (a + 67) 2 (omega arith) (omega arith) z l2;
+            kept = below s3 kept3 (a + ROW + 1) 2 (omega arith) (omega arith) z l2;
             seeks = seeks;
             itself = omega (arith, l.low, l0.falls.labels a, l1.falls.labels a, l2.falls.labels a);
-            below = λ w d. elim (cases_eq w (a + 65)) [
-              | inl e ↦ omega (arith, ap (label_of z) e, l0.low, l1.falls.labels (a + 65), l2.falls.labels (a + 65), at_link w 0 (omega arith))
-              | inr n ↦ elim (cases_eq w (a + 66)) [
-                | inl e ↦ omega (arith, ap (label_of z) e, l1.low, l2.falls.labels (a + 66), at_link w 1 (omega arith))
+            below = λ w d. elim (cases_eq w (a + ROW - 1)) [
+              | inl e ↦ omega (arith, ap (label_of z) e, l0.low, l1.falls.labels (a + ROW - 1), l2.falls.labels (a + ROW - 1), at_link w 0 (omega arith))
+              | inr n ↦ elim (cases_eq w (a + ROW)) [
+                | inl e ↦ omega (arith, ap (label_of z) e, l1.low, l2.falls.labels (a + ROW), at_link w 1 (omega arith))
                 | inr m ↦
-                    let e : w ≡ a + 67 = omega (arith, d.left, d.right) in
+                    let e : w ≡ a + ROW + 1 = omega (arith, d.left, d.right) in
                     omega (arith, ap (label_of z) e, l2.low, at_link w 2 (omega arith))
               ]
             ];
           }
             where
-              at_link : (w e : ℕ) → w - (a + 65) ≡ e → link (w - (a + 65)) ≡ link e
+              at_link : (w e : ℕ) → w + 1 - (a + ROW) ≡ e → link (w + 1 - (a + ROW)) ≡ link e
               at_link w e i = ap link i
 
   -- the cell is scanned

@@ -3,6 +3,7 @@ use Rattle.std.proofs.Common.{◌≡◌, ℕ, ◌<◌, false, get_or, inl, inr, 
 use Rattle.std.proofs.lemmas.Bool.{both_ways}
 use Rattle.router.specs.declared.board.Board.{Board}
 use Rattle.router.specs.Boards.{Used, Shape, Standing}
+use Rattle.router.proofs.Cells.{within}
 
 module _ (b : Board) (h : Shape b.grid) (unused : (u : ℕ) → get_or b.ways.used u false ≡ false) (prev : (u : ℕ) → u < 4290 → get_or b.ways.prev u 0 ≡ u)
     (charge : (u : ℕ) → get_or b.ways.charge u 0 ≡ 0) (into : (u : ℕ) → get_or b.labels.into u 0 ≡ 0) (exit : b.labels.exit ≡ 0) where
@@ -17,7 +18,7 @@ module _ (b : Board) (h : Shape b.grid) (unused : (u : ℕ) → get_or b.ways.us
       flow = record {
         goes = λ p q g. absurd (never p g.used);
         comes = λ q o t nf nh. absurd (never q t);
-        idle = λ q o f. (prev q (omega (arith, h.inside q o, h.rows)), charge q);
+        idle = λ q o f. (prev q (omega (arith, within b.grid h q o)), charge q);
       };
       labels = record {
         entry = λ p o f. omega (arith, into p);

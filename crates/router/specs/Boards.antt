@@ -1,8 +1,9 @@
 -- What a board stands for: a network of cells, a flow through it, and labels. Assumes nothing.
-use Rattle.std.specs.Prelude.{◌≡◌, ℕ, ◌+◌, ◌-◌, ◌<◌, ◌≤◌, true, false, cond, [], slice_index, slice_index_or}
+use Rattle.std.specs.Prelude.{◌≡◌, ℕ, ◌+◌, ◌-◌, ◌*◌, ◌%◌, ◌<◌, ◌≤◌, true, false, cond, [], slice_index, slice_index_or}
 use Rattle.flow.specs.Nets.{Net, Flow}
 use Rattle.flow.specs.Fits.{Labels as Potential, Fits, NoHole}
 use Rattle.plans.specs.Tolls.{worth}
+use Rattle.router.specs.declared.board.TheConstants.{ROW}
 use Rattle.router.specs.declared.board.Grid.{Grid}
 use Rattle.router.specs.declared.board.Ways.{Ways}
 use Rattle.router.specs.declared.board.Labels.{Labels}
@@ -18,17 +19,17 @@ Used w u = slice_index_or w.used u false ≡ true
 pub record Down (g : Grid) (u w : ℕ) : Type 0 where
   pub from : Usable g u
   pub to : Usable g w
-  pub left : u + 65 ≤ w
-  pub right : w ≤ u + 67
+  pub left : u + ROW ≤ w + 1
+  pub right : w ≤ u + ROW + 1
 
 abbrev pub net_of : Grid → Net ℕ
 net_of g = record {
   Usable = Usable g;
-  First = λ u. u < 66;
+  First = λ u. u < ROW;
   Last = λ u. g.last ≤ u;
   Link = Down g;
   entry = λ u. slice_index g.entries u;
-  cost = λ u w. slice_index (slice_index_or g.links u []) (w - (u + 65));
+  cost = λ u w. slice_index (slice_index_or g.links u []) (w + 1 - (u + ROW));
 }
 
 abbrev pub flow_of : Ways → Flow ℕ
@@ -42,10 +43,12 @@ flow_of w = record {
 abbrev pub labels_of : Labels → Potential ℕ
 labels_of l = record { into = λ u. slice_index l.into u; exit = l.exit }
 
--- what a grid has to be: usable cells stand in its rows, but for their ends, and charges are at most 1,000
+-- what a grid has to be: at most 64 rows, usable cells in them but for their ends, and charges of at most 1,000
 pub record Shape (g : Grid) : Type 0 where
-  pub inside : (u : ℕ) → Usable g u → (1 ≤ u) × (u + 1 < g.last + 66)
-  pub rows : g.last ≤ 4158
+  pub whole : g.last % ROW ≡ 0
+  pub rows : g.last ≤ 63 * ROW
+  pub inside : (u : ℕ) → Usable g u → u < g.last + ROW
+  pub sides : (u : ℕ) → Usable g u → (1 ≤ u % ROW) × (u % ROW ≤ 64)
   pub entries : (u : ℕ) → slice_index g.entries u ≤ 1000
   pub links : (u e : ℕ) → slice_index (slice_index_or g.links u []) e ≤ 1000
 

@@ -6,6 +6,7 @@ use Rattle.plans.specs.Tolls.{worth, sum_below}
 use Rattle.router.specs.declared.search.Why.{Why}
 use Rattle.router.specs.declared.search.Why.TheVariants.{Entry, Below}
 use Rattle.router.specs.declared.search.Search.{Search}
+use Rattle.router.specs.declared.board.TheConstants.{CELLS, ROW}
 use Rattle.router.specs.declared.board.Board.{Board}
 use Rattle.router.specs.Boards.{Usable, net_of, flow_of, labels_of, Standing}
 
@@ -44,11 +45,11 @@ EnteredTo b s i = (u : ℕ) → Usable b.grid u → u < i → label_of s u ≤ s
 -- all are
 pub record Begun (b : Board) (s : Search) : Type 0 where
   pub seeks : Seeks b s
-  pub entered : EnteredTo b s 66
+  pub entered : EnteredTo b s ROW
 
 -- what is left to be done, at the most
 abbrev pub work : Search → ℕ
-work s = sum_below 4290 (λ u. 2 * label_of s u + cond (slice_index_or s.waits u false) 1 0)
+work s = sum_below CELLS (λ u. 2 * label_of s u + cond (slice_index_or s.waits u false) 1 0)
 
 -- labels on trial only fall
 pub record Falls (s z : Search) : Type 0 where

@@ -4,13 +4,14 @@ use Rattle.flow.specs.Nets.{Flow}
 use Rattle.flow.specs.Walks.{Settled, Walk}
 use Rattle.plans.specs.Tolls.{worth, sum_below}
 use Rattle.router.specs.declared.search.Search.{Search}
+use Rattle.router.specs.declared.board.TheConstants.{CELLS}
 use Rattle.router.specs.declared.board.Board.{Board}
 use Rattle.router.specs.Boards.{Usable, Used, net_of, flow_of, labels_of, Shape, Standing}
 use Rattle.router.specs.Searches.{marks_of}
 
 -- how many cells were lowered before w
 abbrev pub earlier : (ℕ → ℕ) → ℕ → ℕ
-earlier stamp w = sum_below 4290 (λ u. cond (nat_lt (stamp u) (stamp w)) 1 0)
+earlier stamp w = sum_below CELLS (λ u. cond (nat_lt (stamp u) (stamp w)) 1 0)
 
 -- there is a hole at w, and less than n moves are still to come
 pub record Walks (b : Board) (s : Search) (w n : ℕ) : Type 0 where
@@ -31,7 +32,7 @@ Stepped b s n next = MatchOption next (Standing b) (λ x. Walks b s x n)
 
 -- how many cells of the last row are not used
 abbrev pub spare : Board → ℕ
-spare b = sum_below 4290 (λ u. cond (nat_lt u b.grid.last) 0 (cond (slice_index_or b.ways.used u false) 0 1))
+spare b = sum_below CELLS (λ u. cond (nat_lt u b.grid.last) 0 (cond (slice_index_or b.ways.used u false) 0 1))
 
 -- only ways are changed, and as few cells of the last row are used
 pub record Rerouted (b z : Board) : Type 0 where

@@ -93,9 +93,9 @@ impl Search {
         self.lower(board, a, base, why);
         if a < board.grid.last {
             let links = board.grid.links[a];
-            self.lower(board, a + 65, base + links[0] as u32, why);
-            self.lower(board, a + 66, base + links[1] as u32, why);
-            self.lower(board, a + 67, base + links[2] as u32, why);
+            self.lower(board, a + ROW - 1, base + links[0] as u32, why);
+            self.lower(board, a + ROW, base + links[1] as u32, why);
+            self.lower(board, a + ROW + 1, base + links[2] as u32, why);
         }
         self.waits[u] = false;
     }
@@ -115,7 +115,7 @@ impl Search {
     // Lowers the label on trial of the cell `u` of the first row to its entry charge.
     fn enter(&mut self, board: &Board, u: usize)
         requires seeks { Seeks board.now self.old }
-        requires first { u < 66 }
+        requires first { u < ROW }
         requires entered { EnteredTo board.now self.old u }
         ensures seeks { Seeks board.now self.new }
         ensures entered { EnteredTo board.now self.new (u + 1) }

@@ -5,7 +5,7 @@ ghost use Rattle.router.specs.Boards.{Standing};
 ghost use Rattle.router.specs.Searches.{Settled};
 ghost use Rattle.router.specs.Walking.{Walks, Stepped, Rerouted, spare};
 
-use crate::board::{Board, CELLS};
+use crate::board::{Board, CELLS, ROW};
 use crate::search::{Search, Why};
 
 /// Makes one way more.
@@ -48,7 +48,7 @@ fn step(board: &mut Board, search: &Search, w: usize) -> Option<usize>
             if a == w {
                 Some(board.ways.drop(w))
             } else {
-                let charge = board.grid.links[a][w - (a + 65)];
+                let charge = board.grid.links[a][w + 1 - (a + ROW)];
                 Some(board.ways.link(a, w, charge))
             }
         }
