@@ -10,7 +10,7 @@ use Rattle.router.specs.declared.board.Board.{Board}
 use Rattle.router.specs.Tolls.{out_of, toll_of}
 use Rattle.bridge.specs.Holds.{cell, Told, flow_by, labels_by}
 use Rattle.bridge.specs.Theorems.{StandingGivesPlan}
-use Rattle.bridge.proofs.Places as Places
+use Rattle.bridge.proofs.Rows as Rows
 
 rise : (inside used : Bool) (out into : ℕ) → cond inside (cond used (out - into) 0) 0 ≡ cond (inside && used) (cond used out into - into) 0
 rise true true out into = refl
@@ -23,5 +23,5 @@ told_of c b toll told s j a = told s j a ∙ rise (ltb j 64) (get_or b.ways.used
 
 pub theorem : StandingGivesPlan
 theorem c m b toll within lawful k h top told =
-    Flows.theorem c m (labels_by b) (flow_by b.ways) toll within lawful k.some (Places.routes c m b within k h) (Places.feasible c m b within k h)
-    (Places.tight c m b within k h) top (told_of c b toll told)
+    Flows.theorem c m (labels_by b) (flow_by b.ways) toll within lawful k.some (Rows.routes b h c m within k) (Rows.feasible b h c m within k)
+    (Rows.tight b h c m within k) top (told_of c b toll told)
