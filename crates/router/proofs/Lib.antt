@@ -2,6 +2,7 @@ pub mod Sums
 pub mod Cells
 pub mod Starts
 pub mod Begins
+pub mod Queues
 pub mod Lowers
 pub mod Scans
 pub mod Raises

@@ -17,7 +17,7 @@ use Rattle.router.proofs.Cells.{within, lawful, at_set}
 
 -- the search after the label on trial of w is lowered
 abbrev pub after : Search → ℕ → ℕ → Why → ℕ → ℕ → Search
-after s w v y rise last = record {
+after s w v y rise last = record s {
   label = set s.label w v;
   waits = set s.waits w true;
   why = set s.why w y;

@@ -6,6 +6,7 @@ ghost use Rattle.router.specs.Boards.{Standing, net_of, flow_of, labels_of};
 ghost use Rattle.router.specs.Searches.{Seeks, EnteredTo, Begun, Lowered, RestsAt, label_of, reason, work};
 
 use crate::board::{Board, CELLS, ROW};
+use crate::queue::{Queue, ROOM};
 use plans::WORTH;
 
 /// Why a label is what it is: by the entry charge, or by the label below a cell.
@@ -16,7 +17,7 @@ pub enum Why {
 }
 
 /// Labels on trial, which cells wait to be scanned, why each label was last lowered, how far the exit may rise, and the cell of the
-/// last row that says so.
+/// last row that says so; and a queue that suggests which cell to scan.
 #[derive(Drop)]
 pub struct Search {
     pub label: [u32; CELLS],
@@ -24,6 +25,7 @@ pub struct Search {
     pub why: [Why; CELLS],
     pub rise: u32,
     pub last: usize,
+    pub queue: Queue,
 }
 
 impl Search {
@@ -44,7 +46,23 @@ impl Search {
         ensures begun { Begun board.now self.new }
         ensures rests { (u : ℕ) → u < CELLS → RestsAt board.now self.new u }
     {
-        while self.pass(board) {}
+        self.follow(board);
+        while self.rise > 0 && self.pass(board) {}
+    }
+
+    // Scans cells as the queue suggests them. It may leave some, but seldom does.
+    fn follow(&mut self, board: &Board)
+        requires { Begun board.now self.old }
+        ensures { Begun board.now self.new }
+    {
+        for _ in 0..ROOM {
+            let Some(u) = self.queue.take(self.rise) else {
+                return;
+            };
+            if u < CELLS {
+                self.look(board, u);
+            }
+        }
     }
 
     // Looks at each cell once; says whether any was scanned.
@@ -110,6 +128,7 @@ impl Search {
         }
         self.waits = [false; CELLS];
         self.rise = WORTH - board.labels.exit;
+        self.queue.clear();
     }
 
     // Lowers the label on trial of the cell `u` of the first row to its entry charge.
@@ -141,6 +160,7 @@ impl Search {
             self.waits[w] = true;
             self.why[w] = why;
             self.tell(board, w, v);
+            self.queue.push(w as u16, v - board.labels.into[w], self.rise);
         }
     }
 
