@@ -1,13 +1,11 @@
 -- What the router leaves is a plan. Assumes nothing.
-use Rattle.std.proofs.Common.{◌≡◌, ℕ, ◌-◌, ◌<◌, Bool, true, false, cond, ◌&&◌, ltb, get_or, refl, sym, ap, ◌∙◌, inl, inr, arith}
-use Rattle.std.proofs.lemmas.Bool.{cases_Bool, cond-true, cond-false, ltb-true}
-use Rattle.tariff.specs.Meaning.{Meaning}
-use Rattle.plans.specs.Columns.{Card, standing, row}
+use Rattle.std.proofs.Common.{◌≡◌, ℕ, ◌-◌, Bool, true, false, cond, ◌&&◌, ltb, get_or, refl, ◌∙◌}
+use Rattle.plans.specs.Columns.{Card}
 use Rattle.plans.specs.Tolls.{Tolls}
 use Rattle.plans.specs.Potentials.{TollsOf}
 use Rattle.plans.proofs.Flows as Flows
 use Rattle.router.specs.declared.board.Board.{Board}
-use Rattle.router.specs.Tolls.{out_of, toll_of}
+use Rattle.router.specs.Tolls.{out_of}
 use Rattle.bridge.specs.Holds.{cell, Told, flow_by, labels_by}
 use Rattle.bridge.specs.Theorems.{StandingGivesPlan}
 use Rattle.bridge.proofs.Rows as Rows

@@ -1,5 +1,5 @@
 -- The ways and labels of a board by rows and columns: where it holds a card they are routes, feasible and tight. Assumes nothing.
-use Rattle.std.proofs.Common.{◌≡◌, ℕ, ◌+◌, ◌-◌, ◌*◌, ◌%◌, ◌<◌, ◌≤◌, true, false, cond, ◌&&◌, ltb, leb, [], get_or, refl, sym, ap, ◌∙◌, subst, inl, inr, arith}
+use Rattle.std.proofs.Common.{◌≡◌, ℕ, ◌+◌, ◌-◌, ◌*◌, ◌<◌, ◌≤◌, true, false, ◌&&◌, ltb, leb, [], get_or, refl, sym, ap, ◌∙◌, subst, inl, inr, arith}
 use Rattle.std.proofs.lemmas.Bool.{cases_Bool, cases_lt, and_parts, and_from, cond-true, cond-false, ltb-true, lt-ltb, lt-leb, le-leb}
 use Rattle.flow.specs.Nets as Nets
 use Rattle.flow.specs.Fits.{Comes, NoHole}
@@ -28,7 +28,7 @@ module _ (b : Board) (h : Standing b) where
   abbrev L : Labels
   L = labels_by b
 
-  used_at : (s j : ℕ) → W.used s j ≡ true → (j < 64) × Used b.ways (cell s j)
+  pub used_at : (s j : ℕ) → W.used s j ≡ true → (j < 64) × Used b.ways (cell s j)
   used_at s j u = let both = and_parts (ltb j 64) (get_or b.ways.used (cell s j) false) u in (ltb-true j 64 both.0, both.1)
 
   at_used : (s j : ℕ) → j < 64 → Used b.ways (cell s j) → W.used s j ≡ true
@@ -74,7 +74,7 @@ module _ (b : Board) (h : Standing b) where
     comes : Comes N F NoHole (cell s j) next
     comes = h.fits.flow.goes (cell s j) next goes
 
-    to : (W.next s j < 64) × (next ≡ cell (s + 1) (W.next s j)) × Near j (W.next s j)
+    pub to : (W.next s j < 64) × (next ≡ cell (s + 1) (W.next s j)) × Near j (W.next s j)
     to =
         let d = below s j next l comes.link in
         let e : W.next s j ≡ d.0 = omega (arith, d.2) in
@@ -88,14 +88,14 @@ module _ (b : Board) (h : Standing b) where
     out_inner =
         let low = Bearing.bears_low N F (labels_of b.labels) NoHole h.fits.labels (cell s j) next (N.cost (cell s j) next) bears in
         let out : out_of b (cell s j) ≡ get_or b.labels.into next 0 - get_or b.ways.charge next 0 =
-            cond-false {A = ℕ} (leb b.grid.last (cell s j)) _ _ (lt-leb b.grid.last (cell s j) (inner s j a l)) in
+        cond-false {A = ℕ} (leb b.grid.last (cell s j)) _ _ (lt-leb b.grid.last (cell s j) (inner s j a l)) in
         omega (arith, out_used s j u, out, comes.charge, low)
 
     rises : L.into s j ≤ L.out s j
     rises = omega (arith, out_inner, Bearing.bears_low N F (labels_of b.labels) NoHole h.fits.labels (cell s j) next (N.cost (cell s j) next) bears)
 
     -- and it goes on to a used PE
-    on : W.used (s + 1) (W.next s j) ≡ true
+    pub on : W.used (s + 1) (W.next s j) ≡ true
     on = at_used (s + 1) (W.next s j) to.0 (subst (Used b.ways) to.1 comes.used)
 
   module _ (c : Card) (m : Meaning) (within : Within c) (k : Holds c m b.grid) where

@@ -36,6 +36,13 @@ module _ {P : Type 0} (N : Net P) (F : Flow P) where
     pub bears-goes : (a u : P) → Goes N F a u → Bears N F a u (N.cost a u)
     bears-goes a u g = record { from = g.usable; to = law.to (h.goes a u g).link; how = inr (g, refl) }
 
+    -- the label above a used first place bears none
+    pub bears_first : (a u : P) (k : ℕ) → Bears N F a u k → N.First u → F.used u ≡ true → ⊥
+    bears_first a u k b first used = elim b.how [
+      | inl i ↦ both_ways (F.used a) i.0 (ap F.used (sym i.1) ∙ used)
+      | inr g ↦ law.not_first (h.goes a u g.0).link first
+    ]
+
     -- where the flow comes from
     pub bears_prev : (u : P) → N.Usable u → (N.First u → F.used u ≡ true → ⊥) → (Hole u → ⊥) → Bears N F (F.prev u) u (F.charge u)
     bears_prev u o first hole = elim (cases_Bool (F.used u)) [

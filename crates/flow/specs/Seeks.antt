@@ -45,9 +45,9 @@ pub record Seeking {P : Type 0} (N : Net P) (F : Flow P) (L : Labels P) (W : ℕ
   pub bound : (w : P) → N.Usable w → N.Last w → F.used w ≡ false → L.into w + M.rise ≤ M.label w
   pub last : L.exit + M.rise < W → Tells N F L M M.last
 
--- nothing is lowered yet
-pub record Blank {P : Type 0} (N : Net P) (L : Labels P) (W : ℕ) (M : Marks P) : Type 0 where
-  pub label : (u : P) → N.Usable u → M.label u ≡ W
+-- nothing is lowered yet: labels on trial are W, but those of used first places their entries
+pub record Blank {P : Type 0} (N : Net P) (F : Flow P) (L : Labels P) (W : ℕ) (M : Marks P) : Type 0 where
+  pub label : (u : P) → N.Usable u → (M.label u ≡ W) ⊎ (N.First u × (F.used u ≡ true) × (M.label u ≡ N.entry u))
   pub waits : (u : P) → N.Usable u → M.waits u ≡ false
   pub stamp : (u : P) → N.Usable u → M.stamp u ≤ M.clock
   pub rise : L.exit + M.rise ≡ W

@@ -29,7 +29,7 @@ module _ (b : Board) (s : Search) (h : Begun b s) (rests : (u : ℕ) → u < 429
 
   closed : SettledLabels (net_of b.grid) (flow_of b.ways) (raised (labels_of b.labels) M) worth M
   closed = Closing.closed (net_of b.grid) (flow_of b.ways) (labels_of b.labels) worth h.seeks.standing.fits M h.seeks.seeking
-      (λ u ok first. h.entered u ok first)
+      (λ u ok first. h.entered u ok first (λ unused. first))
       (λ u ok waits. rests u (omega (arith, within b.grid h.seeks.standing.shape u ok)) waits)
 
   as_arrays : raised (labels_of b.labels) M ≡ labels_of l

@@ -75,7 +75,7 @@ module _ (b : Board) (s : Search) (h : Begun b s) (u : ℕ) (waits : get_or s.wa
     -- a itself is lowered, where it is used
     pub offer_itself : Usable b.grid a → Offer N F (label_of z) a base (reason (Below a))
     offer_itself ok = Offer.by_place a u gap 0 refl bears (inr (refl, refl)) (omega (arith, k.same, enough))
-        (λ first. omega (arith, h.entered a ok first, k.falls.labels a))
+        (λ first. omega (arith, h.entered a ok first (λ u. first), k.falls.labels a))
 
     pub itself : (y : Search) → Lowered z y a base → Kept y
     itself y l = more y a 0 (subst (Lowered z y a) (omega arith) l) (not_itself a 0 (inr (refl, refl)))
@@ -177,5 +177,5 @@ module _ (b : Board) (s : Search) (h : Begun b s) (u : ℕ) (waits : get_or s.wa
             (λ e t. absurd (both_ways false refl t)) (λ n. p.seeks.waiting x);
         high = p.seeks.high;
       };
-      entered = λ x ok first. omega (arith, p.kept.falls.labels x, h.entered x ok first);
+      entered = λ x ok first used. omega (arith, p.kept.falls.labels x, h.entered x ok first used);
     }

@@ -38,9 +38,9 @@ pub record Seeks (b : Board) (s : Search) : Type 0 where
   pub waiting : (u : ℕ) → slice_index_or s.waits u false ≡ true → Usable b.grid u
   pub high : (u : ℕ) → label_of s u ≤ worth
 
--- the cells of the first row below i are entered
+-- the used cells of the first row are entered, and those below i
 abbrev pub EnteredTo : Board → Search → ℕ → Type 0
-EnteredTo b s i = (u : ℕ) → Usable b.grid u → u < i → label_of s u ≤ slice_index b.grid.entries u
+EnteredTo b s i = (u : ℕ) → Usable b.grid u → u < ROW → (slice_index_or b.ways.used u false ≡ false → u < i) → label_of s u ≤ slice_index b.grid.entries u
 
 -- all are
 pub record Begun (b : Board) (s : Search) : Type 0 where

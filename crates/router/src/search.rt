@@ -121,17 +121,23 @@ impl Search {
     // Nothing is lowered yet.
     fn clear(&mut self, board: &Board)
         requires { Standing board.now }
-        ensures { Seeks board.now self.new }
+        ensures seeks { Seeks board.now self.new }
+        ensures entered { EnteredTo board.now self.new 0 }
     {
         for u in 0..CELLS {
             self.label[u] = if board.grid.usable[u] { WORTH } else { 0 };
+        }
+        for u in 0..ROW {
+            if board.ways.used[u] {
+                self.label[u] = board.grid.entries[u] as u32;
+            }
         }
         self.waits = [false; CELLS];
         self.rise = WORTH - board.labels.exit;
         self.queue.clear();
     }
 
-    // Lowers the label on trial of the cell `u` of the first row to its entry charge.
+    // Enters at the cell `u` of the first row, where it is not used.
     fn enter(&mut self, board: &Board, u: usize)
         requires seeks { Seeks board.now self.old }
         requires first { u < ROW }
@@ -139,11 +145,8 @@ impl Search {
         ensures seeks { Seeks board.now self.new }
         ensures entered { EnteredTo board.now self.new (u + 1) }
     {
-        let entry = board.grid.entries[u] as u32;
-        if board.ways.used[u] {
-            self.label[u] = entry;
-        } else {
-            self.lower(board, u, entry, Why::Entry);
+        if !board.ways.used[u] {
+            self.lower(board, u, board.grid.entries[u] as u32, Why::Entry);
         }
     }
 
