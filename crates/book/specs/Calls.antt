@@ -12,7 +12,7 @@ use Rattle.greedy.specs.Laws.{greedy_on}
 use Rattle.greedy.specs.Answers.{one_after_another, at_front}
 use Rattle.book.specs.declared.refusal.Refusal.{Refusal}
 use Rattle.book.specs.declared.refusal.Refusal.TheVariants.{Card, NoRow, ShortBuffer}
-use Rattle.book.specs.Rows.{card_of}
+use Rattle.routable.specs.Cards.{card_of}
 
 -- a mark, picture or choice is answered as the card does
 abbrev pub by_card : Result (Unit {0}) CardRefusal → Result (Unit {0}) Refusal

@@ -1,20 +1,15 @@
 -- Laws of a book's calls in words of the subject. Assumes nothing.
 use Rattle.std.specs.Prelude.{◌≡◌, ℕ, ◌<◌, not, ◌&&◌, None, ◌==◌}
-use Rattle.masks.specs.Masks.{how_many}
 use Rattle.host.specs.declared.Host.{Host}
 use Rattle.host.specs.Refusals.{refuse}
 use Rattle.host.specs.Maps.{stands}
-use Rattle.plans.specs.Columns.{Within, standing}
+use Rattle.plans.specs.Columns.{standing}
 use Rattle.plans.specs.Families.{Family, Pairwise, LeftOf}
 use Rattle.book.specs.declared.refusal.Refusal.TheVariants.{NoRow}
-use Rattle.book.specs.Rows.{card_of}
+use Rattle.routable.specs.Cards.{card_of}
 use Rattle.book.specs.Calls.{found, rowless, greedy_refusal, left_out}
 
 pub record Laws : Type 0 where
-  -- as many rows stand as the mask of standing rows has members
-  pub rows : (h : Host) → standing (card_of h) ≡ how_many (stands h)
-  -- a map is a card within the limits, so every law of plans holds of it
-  pub within : (h : Host) → Within (card_of h)
   -- greedy's columns are a family, and stand left to right
   pub family : (h : Host) → 0 < standing (card_of h) → Family (card_of h) (found h)
   pub left_to_right : (h : Host) → Pairwise LeftOf (found h)

@@ -5,8 +5,8 @@ ghost use Rattle.book.specs.Calls.{greedy_answer, greedy_buffer};
 use crate::Book;
 use crate::charges::total_charge;
 use crate::refusal::Refusal;
-use crate::rows::usable_rows;
 use host::Host;
+use routable::usable_rows;
 use tariff::Tariff;
 
 /// Writes the columns that greedy finds to a buffer, and answers their number and total charge.

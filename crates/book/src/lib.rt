@@ -16,7 +16,6 @@ use tariff::Tariff;
 mod charges;
 mod greedily;
 pub mod refusal;
-mod rows;
 #[cfg(test)]
 mod tests;
 mod trial;

@@ -9,3 +9,4 @@ pub mod Chains
 pub mod Flows
 pub mod Cards
 pub mod Examples
+pub mod Holding

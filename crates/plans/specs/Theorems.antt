@@ -11,6 +11,7 @@ use Rattle.plans.specs.Tolls.{Tolls, Supports, Plan, Underpriced, worth}
 use Rattle.plans.specs.Potentials.{Labels, Flow, Routes, Feasible, Tight, TollsOf, columns_of}
 use Rattle.plans.specs.Least.{least, LeastPrice}
 use Rattle.plans.specs.Masked.{masked}
+use Rattle.plans.specs.Held.{held, held_columns, held_tolls}
 
 -- tolls that support a family prove it best
 abbrev pub TollsProveBest : Type 0
@@ -96,3 +97,10 @@ MaskedIsWithin = (stand : ℕ) (masks : List ℕ) → Within (masked stand masks
 -- and as many of its rows stand as its mask has members
 abbrev pub MaskedCountsRows : Type 0
 MaskedCountsRows = (stand : ℕ) (masks : List ℕ) → standing (masked stand masks) ≡ how_many (bit stand)
+
+-- a family and tolls that are held are told again
+abbrev pub HeldIsTold : Type 0
+HeldIsTold =
+    (c : Card) (toll : Tolls) (f : List (List ℕ)) → Within c → Family c f →
+    (held_columns (held f toll) (standing c) (length f) ≡ f) ×
+    ((r j : ℕ) → r < 64 → j < 64 → held_tolls (held f toll) r j ≡ toll r j)

@@ -5,7 +5,7 @@ ghost use Rattle.plans.specs.Example.{Example};
 ghost use Rattle.plans.specs.Theorems.{TollsProveBest, BestIsUncrossed, PlansAreBest, FamiliesAreSmall};
 ghost use Rattle.plans.specs.Theorems.{LeastIsLeast, LeastTells, LabelsGivePlan};
 ghost use Rattle.plans.specs.Theorems.{ColumnByPlaces, ApartByPlaces, LeftOfByPlaces, UncrossedBySides};
-ghost use Rattle.plans.specs.Theorems.{LinksCountLong, MaskedIsCard, MaskedIsWithin, MaskedCountsRows};
+ghost use Rattle.plans.specs.Theorems.{LinksCountLong, MaskedIsCard, MaskedIsWithin, MaskedCountsRows, HeldIsTold};
 
 pub mod held;
 
@@ -81,6 +81,11 @@ pub fn masked_is_within()
 /// As many rows of such a card stand as its mask has ones.
 pub fn masked_counts_rows()
     ensures { MaskedCountsRows }
+{}
+
+/// A family and tolls that are held are told again.
+pub fn held_is_told()
+    ensures { HeldIsTold }
 {}
 
 /// A small card has a plan, so the definitions can be met.

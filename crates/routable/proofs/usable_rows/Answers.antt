@@ -3,8 +3,8 @@ use Rattle.std.proofs.lemmas.List.{length-map}
 use Rattle.masks.specs.Masks.{mask}
 use Rattle.masks.proofs.Members.{length_passing}
 use Rattle.host.specs.Maps.{usable, stands}
-use Rattle.book.proofs.Finds.{rows_named}
-use Rattle.book.proofs.rows.usable_rows.Goals as goal
+use Rattle.routable.proofs.Cards.{rows_named}
+use Rattle.routable.proofs.usable_rows.Goals as goal
 
 pub loop-row-init : goal.loop-row-init
 loop-row-init c =

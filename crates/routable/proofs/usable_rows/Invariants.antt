@@ -2,9 +2,9 @@ use Rattle.std.proofs.Common.{◌≡◌, ◌++◌, map}
 use Rattle.masks.specs.Masks.{bit, mask}
 use Rattle.masks.specs.Members.{members}
 use Rattle.host.specs.Maps.{usable}
-use Rattle.greedy.specs.Laws.{usable_rows}
-use Rattle.book.specs.Rows.{card_of}
-use Rattle.book.proofs.rows.usable_rows.Given as goal
+use Rattle.plans.specs.Masked.{usable_rows}
+use Rattle.routable.specs.Cards.{card_of}
+use Rattle.routable.proofs.usable_rows.Given as goal
 
 abbrev pub invariant-loop-row : goal.invariant-loop-row
 invariant-loop-row l = record {

@@ -1,7 +1,10 @@
-//! The standing rows of a card, counted from 0 at the top.
+//! A card's map as routing sees it: the standing rows, going down, and which PEs are usable.
+#![tactic(auto)]
+
 ghost use Rattle.std.specs.Prelude.{◌≡◌};
-ghost use Rattle.greedy.specs.Laws.{usable_rows};
-ghost use Rattle.book.specs.Rows.{card_of};
+ghost use Rattle.plans.specs.Masked.{usable_rows};
+ghost use Rattle.routable.specs.Cards.{card_of};
+ghost use Rattle.routable.specs.Laws.{Laws};
 
 use arrayvec::ArrayVec;
 use host::Host;
@@ -17,3 +20,8 @@ pub fn usable_rows(host: &Host) -> ArrayVec<u64, 64>
     }
     rows
 }
+
+/// What the definitions in the contracts tell of each other.
+pub fn laws()
+    ensures { Laws }
+{}
