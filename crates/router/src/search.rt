@@ -38,33 +38,8 @@ impl Search {
         }
     }
 
-    /// Scans cells until none waits whose label on trial is less than the rise above its label.
-    pub fn rest(&mut self, board: &Board)
-        requires { Begun board.now self.old }
-        ensures begun { Begun board.now self.new }
-        ensures rests { (u : ℕ) → u < CELLS → RestsAt board.now self.new u }
-    {
-        while self.pass(board) {}
-    }
-
-    // Looks at each cell once; says whether any was scanned.
-    fn pass(&mut self, board: &Board) -> bool
-        requires { Begun board.now self.old }
-        ensures begun { Begun board.now self.new }
-        ensures less { result ≡ true → work self.new < work self.old }
-        ensures rests { result ≡ false → (u : ℕ) → u < CELLS → RestsAt board.now self.new u }
-    {
-        let mut any = false;
-        for u in 0..CELLS {
-            if self.look(board, u) {
-                any = true;
-            }
-        }
-        any
-    }
-
-    // Scans the cell `u` if it waits and its label on trial is less than the rise above its label; says whether it did.
-    fn look(&mut self, board: &Board, u: usize) -> bool
+    /// Scans the cell `u` if it waits and its label on trial is less than the rise above its label; says whether it did.
+    pub fn look(&mut self, board: &Board, u: usize) -> bool
         requires begun { Begun board.now self.old }
         requires inside { u < CELLS }
         ensures begun { Begun board.now self.new }

@@ -5,6 +5,7 @@ ghost use Rattle.router.specs.Boards.{Standing};
 ghost use Rattle.router.specs.Searches.{Settled};
 
 use crate::board::{Board, CELLS, Labels};
+use crate::passes;
 use crate::search::Search;
 
 /// Settles the labels.
@@ -14,7 +15,7 @@ pub fn settle(board: &mut Board, search: &mut Search)
     ensures others { board.new ≡ record board.old { labels = board.new.labels } }
 {
     search.begin(board);
-    search.rest(board);
+    passes::rest(search, board);
     raise(&mut board.labels, search);
 }
 
