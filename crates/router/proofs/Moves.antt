@@ -74,6 +74,7 @@ module _ (b : Board) (s : Search) (w n : ℕ) (h : Walks b s w (n + 1)) where
     shape = h.shape;
     usable = usable;
     low = h.low;
+    blank = h.blank;
     room = h.room;
     before = h.before;
     stamp = h.stamp;
@@ -97,6 +98,7 @@ module _ (b : Board) (s : Search) (w n : ℕ) (h : Walks b s w (n + 1)) where
     usable = h.usable;
     fits = Walking.ends N (lawful b.grid h.shape) h.before L worth M h.settled h.room G w h.walk (ap reason says);
     low = h.low;
+    blank = h.blank;
     top = omega (arith, h.room);
   }
 
@@ -160,6 +162,7 @@ module _ (b : Board) (s : Search) (h : Settled b s) (room : b.labels.exit < wort
         | inr i ↦ h.standing.usable u (sym (m.used_else u i) ∙ t)
       ];
       low = h.standing.low;
+      blank = h.standing.blank;
       room = room;
       before = flow_of b.ways;
       stamp = h.stamp;

@@ -1,6 +1,6 @@
 -- Labels are raised, on arrays. Assumes nothing.
-use Rattle.std.proofs.Common.{◌≡◌, ℕ, ◌+◌, ◌<◌, min, List, length, get_or, sym, subst, inl, inr, arith}
-use Rattle.std.proofs.lemmas.Bool.{cases_lt}
+use Rattle.std.proofs.Common.{◌≡◌, ℕ, ◌+◌, ◌<◌, ◌≤◌, false, min, List, length, get_or, sym, subst, inl, inr, arith}
+use Rattle.std.proofs.lemmas.Bool.{cases_lt, cases_Bool}
 use Rattle.std.proofs.lemmas.List.{get_or_past}
 use Rattle.flow.specs.Seeks.{Marks, raised}
 use Rattle.flow.specs.Walks.{Settled as SettledLabels}
@@ -48,9 +48,17 @@ module _ (b : Board) (s : Search) (h : Begun b s) (rests : (u : ℕ) → u < 429
           usable = old.usable;
           fits = c.fits;
           low = λ u. omega (arith, into u, old.low u);
+          blank = λ u f. omega (arith, into u, h.seeks.unusable u f);
           top = omega (arith, h.seeks.seeking.cap);
         };
         stamp = h.seeks.stamp;
         clock = h.seeks.clock;
         settled = c;
       }
+
+-- No label on trial is below its label.
+pub above : (b : Board) (s : Search) (h : Begun b s) (k : ℕ) → get_or b.labels.into k 0 ≤ label_of s k
+above b s h k = elim (cases_Bool (get_or b.grid.usable k false)) [
+  | inl on ↦ h.seeks.seeking.above k on
+  | inr off ↦ omega (arith, h.seeks.standing.blank k off)
+]

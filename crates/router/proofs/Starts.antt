@@ -32,5 +32,6 @@ module _ (b : Board) (h : Shape b.grid) (unused : (u : ℕ) → get_or b.ways.us
       };
     };
     low = λ u. omega (arith, into u);
+    blank = λ u f. into u;
     top = omega (arith, exit);
   }

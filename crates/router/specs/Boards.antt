@@ -58,6 +58,7 @@ pub record Standing (b : Board) : Type 0 where
   pub usable : (u : ℕ) → Used b.ways u → Usable b.grid u
   pub fits : Fits (net_of b.grid) (flow_of b.ways) (labels_of b.labels) NoHole
   pub low : (u : ℕ) → slice_index b.labels.into u ≤ b.labels.exit
+  pub blank : (u : ℕ) → slice_index_or b.grid.usable u false ≡ false → slice_index b.labels.into u ≡ 0
   pub top : b.labels.exit ≤ worth
 
 -- the cell that bears the label below a

@@ -18,6 +18,7 @@ pub record Walks (b : Board) (s : Search) (w n : ℕ) : Type 0 where
   pub shape : Shape b.grid
   pub usable : (u : ℕ) → Used b.ways u → Usable b.grid u
   pub low : (u : ℕ) → slice_index b.labels.into u ≤ b.labels.exit
+  pub blank : (u : ℕ) → slice_index_or b.grid.usable u false ≡ false → slice_index b.labels.into u ≡ 0
   pub room : b.labels.exit < worth
   pub before : Flow ℕ
   pub stamp : ℕ → ℕ

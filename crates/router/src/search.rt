@@ -6,7 +6,7 @@ ghost use Rattle.router.specs.Boards.{Standing, net_of, flow_of, labels_of};
 ghost use Rattle.router.specs.Searches.{Seeks, EnteredTo, Begun, Lowered, RestsAt, label_of, reason, work};
 
 use crate::board::{Board, CELLS, ROW};
-use crate::queue::{Queue, ROOM};
+use crate::queue::Queue;
 use plans::WORTH;
 
 /// Why a label is what it is: by the entry charge, or by the label below a cell.
@@ -17,7 +17,7 @@ pub enum Why {
 }
 
 /// Labels on trial, which cells wait to be scanned, why each label was last lowered, how far the exit may rise, and the cell of the
-/// last row that says so; and a queue that suggests which cell to scan.
+/// last row that says so; and a queue that suggests which cell to scan next.
 #[derive(Drop)]
 pub struct Search {
     pub label: [u32; CELLS],
@@ -40,49 +40,8 @@ impl Search {
         }
     }
 
-    /// Scans cells until none waits whose label on trial is less than the rise above its label.
-    pub fn rest(&mut self, board: &Board)
-        requires { Begun board.now self.old }
-        ensures begun { Begun board.now self.new }
-        ensures rests { (u : ℕ) → u < CELLS → RestsAt board.now self.new u }
-    {
-        self.follow(board);
-        while self.rise > 0 && self.pass(board) {}
-    }
-
-    // Scans cells as the queue suggests them. It may leave some, but seldom does.
-    fn follow(&mut self, board: &Board)
-        requires { Begun board.now self.old }
-        ensures { Begun board.now self.new }
-    {
-        for _ in 0..ROOM {
-            let Some(u) = self.queue.take(self.rise) else {
-                return;
-            };
-            if u < CELLS {
-                self.look(board, u);
-            }
-        }
-    }
-
-    // Looks at each cell once; says whether any was scanned.
-    fn pass(&mut self, board: &Board) -> bool
-        requires { Begun board.now self.old }
-        ensures begun { Begun board.now self.new }
-        ensures less { result ≡ true → work self.new < work self.old }
-        ensures rests { result ≡ false → (u : ℕ) → u < CELLS → RestsAt board.now self.new u }
-    {
-        let mut any = false;
-        for u in 0..CELLS {
-            if self.look(board, u) {
-                any = true;
-            }
-        }
-        any
-    }
-
-    // Scans the cell `u` if it waits and its label on trial is less than the rise above its label; says whether it did.
-    fn look(&mut self, board: &Board, u: usize) -> bool
+    /// Scans the cell `u` if it waits and its label on trial is less than the rise above its label; says whether it did.
+    pub fn look(&mut self, board: &Board, u: usize) -> bool
         requires begun { Begun board.now self.old }
         requires inside { u < CELLS }
         ensures begun { Begun board.now self.new }
@@ -163,7 +122,8 @@ impl Search {
             self.waits[w] = true;
             self.why[w] = why;
             self.tell(board, w, v);
-            self.queue.push(w as u16, v - board.labels.into[w], self.rise);
+            self.queue
+                .push(w as u16, v - board.labels.into[w], self.rise);
         }
     }
 

@@ -1,5 +1,0 @@
-use Rattle.router.specs.Searches.{Begun}
-use Rattle.router.proofs.search.Search.follow.Given as goal
-
-abbrev pub invariant-loop : goal.invariant-loop
-invariant-loop l = Begun l.board l.self
