@@ -3,10 +3,10 @@ use Rattle.router.proofs.Lowers as Lowers
 use Rattle.router.proofs.search.Search.lower.Goals as goal
 
 pub tell-requires-clause-high : goal.tell-requires-clause-high
-tell-requires-clause-high c = Lowers.high _ _ c.requires.seeks _ _ _ c.requires.offer c.if-v-self.true
+tell-requires-clause-high c = Lowers.high c.requires.seeks c.args.why c.requires.offer c.if-v-self.true
 
 pub returns-then-v-self : goal.returns-then-v-self
 returns-then-v-self c =
-    let told = Lowers.told _ _ c.requires.seeks _ _ c.args.why c.requires.offer c.if-v-self.true
+    let told = Lowers.told c.requires.seeks c.args.why c.requires.offer c.if-v-self.true
     (omega arith) (omega arith) (omega arith) _ c.tell.ensures.others c.tell.ensures.closer in
     record { seeks = told.0; lowered = told.1 }
