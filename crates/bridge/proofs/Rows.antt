@@ -10,9 +10,9 @@ use Rattle.plans.specs.Columns as Columns
 use Rattle.plans.specs.Potentials.{Routes, Feasible, Tight, Labels, Flow}
 use Rattle.router.specs.declared.board.TheConstants.{ROW}
 use Rattle.router.specs.declared.board.Board.{Board}
-use Rattle.router.specs.Boards.{Usable, Used, Down, net_of, flow_of, labels_of, Standing}
+use Rattle.router.specs.Boards.{Usable, Used, Down, net_of, flow_of, Standing}
 use Rattle.router.specs.Tolls.{out_of}
-use Rattle.router.proofs.Cells.{lawful}
+use Rattle.router.proofs.Lows as Lows
 use Rattle.bridge.specs.Holds.{cell, Holds, flow_by, labels_by}
 
 module _ (b : Board) (h : Standing b) where
@@ -68,11 +68,8 @@ module _ (b : Board) (h : Standing b) where
     abbrev next : ℕ
     next = get_or b.ways.next (cell s j) 0
 
-    goes : Nets.Goes N F (cell s j) next
-    goes = record { usable = h.usable (cell s j) u; used = u; not_last = λ i. omega (arith, inner s j a l); to = refl }
-
     comes : Comes N F NoHole (cell s j) next
-    comes = h.fits.flow.goes (cell s j) next goes
+    comes = Lows.comes b h (cell s j) u (inner s j a l)
 
     pub to : (W.next s j < 64) × (next ≡ cell (s + 1) (W.next s j)) × Near j (W.next s j)
     to =
@@ -81,18 +78,18 @@ module _ (b : Board) (h : Standing b) where
         (omega (arith, d.1), omega (arith, d.2), (omega (arith, d.3), omega (arith, d.3)))
 
     bears : Nets.Bears N F (cell s j) next (N.cost (cell s j) next)
-    bears = Bearing.bears-goes N F (lawful b.grid h.shape) NoHole h.fits.flow (cell s j) next goes
+    bears = Lows.bears b h (cell s j) u (inner s j a l)
 
     -- the label below pays for the link
     out_inner : L.out s j + N.cost (cell s j) next ≡ get_or b.labels.into next 0
     out_inner =
-        let low = Bearing.bears_low N F (labels_of b.labels) NoHole h.fits.labels (cell s j) next (N.cost (cell s j) next) bears in
+        let low = Lows.next_high b h (cell s j) u (inner s j a l) in
         let out : out_of b (cell s j) ≡ get_or b.labels.into next 0 - get_or b.ways.charge next 0 =
         cond-false {A = ℕ} (leb b.grid.last (cell s j)) _ _ (lt-leb b.grid.last (cell s j) (inner s j a l)) in
         omega (arith, out_used s j u, out, comes.charge, low)
 
     rises : L.into s j ≤ L.out s j
-    rises = omega (arith, out_inner, Bearing.bears_low N F (labels_of b.labels) NoHole h.fits.labels (cell s j) next (N.cost (cell s j) next) bears)
+    rises = omega (arith, out_inner, comes.charge, Lows.next_high b h (cell s j) u (inner s j a l))
 
     -- and it goes on to a used PE
     pub on : W.used (s + 1) (W.next s j) ≡ true
@@ -117,25 +114,25 @@ module _ (b : Board) (h : Standing b) where
         subst (λ x. Columns.Usable c (row c x) j) e (subst (Columns.Usable c (row c p.0)) i p.3)
 
     cost_is : (s j i : ℕ) → s + 1 < standing c → j < 64 → i < 64 → Near j i → N.cost (cell s j) (cell (s + 1) i) ≡ m.link (row c s) j (row c (s + 1)) i
-    cost_is s j i a l l' near =
+    cost_is s j i a upper lower near =
         let at : cell (s + 1) i + 1 - (cell s j + ROW) ≡ i + 1 - j = omega (arith, near.0, near.1) in
-        ap (λ n. get_or (get_or b.grid.links (cell s j) []) n 0) at ∙ k.link s j i a l l' near
+        ap (λ n. get_or (get_or b.grid.links (cell s j) []) n 0) at ∙ k.link s j i a upper lower near
 
     pub routes : Routes c W
     routes = record {
-      usable = λ s j a u. let at = used_at s j u in only s j at.0 (h.usable (cell s j) at.1);
+      usable = λ s j a u. let at = used_at s j u in only s j at.0 (h.fits.flow.usable (cell s j) at.1);
       goes = λ s j a u.
           let at = used_at s j u in
           on s j (above_last s a) at.0 at.1;
       near = λ s j a u. let at = used_at s j u in (to s j (above_last s a) at.0 at.1).2;
       apart = λ s j i a u v e.
           let at = used_at s j u in
-          let at' = used_at s i v in
-          let same : next s i (above_last s a) at'.0 at'.1 ≡ next s j (above_last s a) at.0 at.1 = omega (arith, (to s j (above_last s a) at.0 at.1).1, (to s i (above_last s a) at'.0 at'.1).1) in
-          omega (arith, (comes s j (above_last s a) at.0 at.1).prev, (comes s i (above_last s a) at'.0 at'.1).prev, ap (λ n. get_or b.ways.prev n 0) same);
+          let other = used_at s i v in
+          let same : next s i (above_last s a) other.0 other.1 ≡ next s j (above_last s a) at.0 at.1 = omega (arith, (to s j (above_last s a) at.0 at.1).1, (to s i (above_last s a) other.0 other.1).1) in
+          omega (arith, (comes s j (above_last s a) at.0 at.1).prev, (comes s i (above_last s a) other.0 other.1).prev, ap (λ n. get_or b.ways.prev n 0) same);
       comes = λ s i a u.
           let at = used_at (s + 1) i u in
-          let g = h.fits.flow.comes (cell (s + 1) i) (h.usable (cell (s + 1) i) at.1) at.1 (λ first. omega arith) (λ x. x) in
+          let g = h.fits.flow.comes (cell (s + 1) i) at.1 (λ first. omega arith) (λ x. x) in
           let p = get_or b.ways.prev (cell (s + 1) i) 0 in
           let q = above s i p at.0 (h.fits.flow.goes p (cell (s + 1) i) g).link in
           (q.0, at_used s q.0 q.1 (subst (Used b.ways) q.2 g.used), omega (arith, subst (λ x. get_or b.ways.next x 0 ≡ cell (s + 1) i) q.2 g.to));
@@ -151,7 +148,7 @@ module _ (b : Board) (h : Standing b) where
           omega (arith, h.fits.labels.entry (cell 0 j) (usable 0 j k.some u) (omega arith), k.entry j l);
       link = λ s j i a u v near.
           let l = narrow s j u in
-          let l' = narrow (s + 1) i v in
+          let lower = narrow (s + 1) i v in
           let link : Down b.grid (cell s j) (cell (s + 1) i) = record {
             from = usable s j (omega arith) u;
             to = usable (s + 1) i a v;
@@ -163,13 +160,13 @@ module _ (b : Board) (h : Standing b) where
               arith,
               h.fits.labels.along (cell s j) (next s j (above_last s a) l t) (N.cost (cell s j) (next s j (above_last s a) l t)) (bears s j (above_last s a) l t) (cell (s + 1) i) _ (inl (link, refl)),
               out_inner s j (above_last s a) l t,
-              cost_is s j i a l l' near,
+              cost_is s j i a l lower near,
             )
             | inr f ↦ omega (
               arith,
-              h.fits.labels.along (cell s j) (cell s j) 0 (Bearing.bears_idle N F (cell s j) link.from f) (cell (s + 1) i) _ (inl (link, refl)),
+              h.fits.labels.along (cell s j) (cell s j) 0 (Bearing.bears_idle link.from f) (cell (s + 1) i) _ (inl (link, refl)),
               out_unused s j f,
-              cost_is s j i a l l' near,
+              cost_is s j i a l lower near,
             )
           ];
       last = λ s j a u. elim (cases_Bool (get_or b.ways.used (cell s j) false)) [
@@ -182,7 +179,7 @@ module _ (b : Board) (h : Standing b) where
     tight = record {
       first = λ j u.
           let at = used_at 0 j u in
-          h.fits.labels.entered (cell 0 j) (h.usable (cell 0 j) at.1) (omega (arith, at.0)) at.1 (λ x. x) ∙ k.entry j at.0;
+          h.fits.labels.entered (cell 0 j) at.1 (omega (arith, at.0)) (λ x. x) ∙ k.entry j at.0;
       link = λ s j a u.
           let at = used_at s j u in
           let t = to s j (above_last s a) at.0 at.1 in
@@ -198,7 +195,7 @@ module _ (b : Board) (h : Standing b) where
           let at = used_at s j u in
           elim (cases_lt (s + 1) (standing c)) [
             | inl i ↦ rises s j (above_last s i) at.0 at.1
-            | inr i ↦ omega (arith, out_last s j (the_last s (omega arith)) at.1, h.fits.labels.low (cell s j) (h.usable (cell s j) at.1))
+            | inr i ↦ omega (arith, out_last s j (the_last s (omega arith)) at.1, h.fits.labels.low (cell s j))
           ];
       unused = λ s j a v f.
           let l = narrow s j v in

@@ -1,12 +1,13 @@
 -- The hole w is dropped: the hole moves on to v. Assumes nothing.
-use Rattle.std.proofs.Common.{◌≡◌, ℕ, ◌+◌, true, ◌⊎◌, sym, refl, ap, ◌∙◌, subst, inl, inr, arith}
+use Rattle.std.proofs.Common.{◌≡◌, ℕ, ◌+◌, true, ◌⊎◌, sym, ap, ◌∙◌, subst, inl, inr, arith}
 use Rattle.std.proofs.lemmas.Bool.{both_ways}
 use Rattle.flow.specs.Nets.{Net, Lawful, Flow, Goes, Bears, Reaches}
 use Rattle.flow.specs.Fits.{Labels, Fits}
 use Rattle.flow.specs.Moves.{Dropped}
+use Rattle.flow.proofs.Bearing.{bears-goes}
 
-module _ {P : Type 0} (N : Net P) (law : Lawful N) (G H : Flow P) (L : Labels P) (w : P) (h : Fits N G L (λ p. p ≡ w))
-    (v : P) (g : Goes N G w v) (first : N.First w → ⊥) (is : L.into w + N.cost w v ≡ L.into v) (m : Dropped G H w) where
+module _ {P : Type 0} {N : Net P} (law : Lawful N) {G H : Flow P} {L : Labels P} {w : P} (h : Fits N G L (λ p. p ≡ w))
+    {v : P} (g : Goes N G w v) (first : N.First w → ⊥) (is : L.into w + N.cost w v ≡ L.into v) (m : Dropped G H w) where
   not_w : (q : P) → H.used q ≡ true → q ≡ w → ⊥
   not_w q t e = both_ways (H.used w) m.used (sym (ap H.used e) ∙ t)
 
@@ -30,6 +31,7 @@ module _ {P : Type 0} (N : Net P) (law : Lawful N) (G H : Flow P) (L : Labels P)
   pub drop_fits : Fits N H L (λ p. p ≡ v)
   drop_fits = record {
     flow = record {
+      usable = λ p t. h.flow.usable p (sym (m.used_else p (not_w p t)) ∙ t);
       goes = λ p q d.
           let o = back p q d in
           let t = h.flow.goes p q o.1 in
@@ -40,9 +42,9 @@ module _ {P : Type 0} (N : Net P) (law : Lawful N) (G H : Flow P) (L : Labels P)
             charge = m.charge_else q t.whole ∙ t.charge;
             whole = λ e. o.0 (sym t.prev ∙ ap G.prev e ∙ (h.flow.goes w v g).prev);
           };
-      comes = λ q o t nf n.
+      comes = λ q t nf n.
           let nw = not_w q t in
-          let d = h.flow.comes q o (sym (m.used_else q nw) ∙ t) nf nw in
+          let d = h.flow.comes q (sym (m.used_else q nw) ∙ t) nf nw in
           let np : G.prev q ≡ w → ⊥ = λ e. n (sym d.to ∙ ap G.next e ∙ g.to) in
           subst (λ z. Goes N H z q) (sym (m.prev_else q nw))
           (record { usable = d.usable; used = m.used_else (G.prev q) np ∙ d.used; not_last = d.not_last; to = m.next (G.prev q) ∙ d.to });
@@ -53,10 +55,10 @@ module _ {P : Type 0} (N : Net P) (law : Lawful N) (G H : Flow P) (L : Labels P)
     };
     labels = record {
       entry = h.labels.entry;
-      entered = λ p o f t n. let nw = not_w p t in h.labels.entered p o f (sym (m.used_else p nw) ∙ t) nw;
+      entered = λ p t f n. let nw = not_w p t in h.labels.entered p (sym (m.used_else p nw) ∙ t) f nw;
       along = λ p y j d z c reach. elim (bears_back p y j d) [
         | inl e ↦
-            let up = h.labels.along w v (N.cost w v) (record { from = g.usable; to = law.to (h.flow.goes w v g).link; how = inr (g, refl) }) z c
+            let up = h.labels.along w v (N.cost w v) (bears-goes law h.flow g) z c
             (subst (λ q. Reaches N q z c) e.0 reach) in
             omega (arith, ap L.into e.1, e.2)
         | inr o ↦ h.labels.along p y j o z c reach

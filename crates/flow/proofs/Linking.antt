@@ -5,8 +5,8 @@ use Rattle.flow.specs.Nets.{Net, Lawful, Flow, Goes, Bears, Reaches}
 use Rattle.flow.specs.Fits.{Labels, Comes, Fits}
 use Rattle.flow.specs.Moves.{Linked}
 
-module _ {P : Type 0} (N : Net P) (law : Lawful N) (G H : Flow P) (L : Labels P) (w : P) (h : Fits N G L (λ p. p ≡ w)) (here : G.used w ≡ true)
-    (a x : P) (k : ℕ) (link : N.Link a w) (b : Bears N G a x k) (is : L.into w + k ≡ L.into x + N.cost a w) (m : Linked G H a w (N.cost a w)) where
+module _ {P : Type 0} {N : Net P} (law : Lawful N) {G H : Flow P} {L : Labels P} {w : P} (h : Fits N G L (λ p. p ≡ w)) (here : G.used w ≡ true)
+    {a x : P} {k : ℕ} (link : N.Link a w) (b : Bears N G a x k) (is : L.into w + k ≡ L.into x + N.cost a w) (m : Linked G H a w (N.cost a w)) where
   unlike : (p q : P) → G.used p ≡ false → G.used q ≡ true → p ≡ q → ⊥
   unlike p q f t e = both_ways (G.used p) f (ap G.used e ∙ t)
 
@@ -65,6 +65,10 @@ module _ {P : Type 0} (N : Net P) (law : Lawful N) (G H : Flow P) (L : Labels P)
   pub link_fits : Fits N H L (λ p. p ≡ x)
   link_fits = record {
     flow = record {
+      usable = λ p t. elim (law.same_or_not p a) [
+        | inl e ↦ subst N.Usable (sym e) (law.from link)
+        | inr n ↦ h.flow.usable p (sym (m.used_else p n) ∙ t)
+      ];
       goes = λ p q g. elim (back p q g) [
         | inl e ↦
             subst (λ z. Comes N H (λ v. v ≡ x) z q) (sym e.0)
@@ -78,10 +82,10 @@ module _ {P : Type 0} (N : Net P) (law : Lawful N) (G H : Flow P) (L : Labels P)
           whole = not_x p q o.0 o.1;
         }
       ];
-      comes = λ q o t first n. elim (law.same_or_not q w) [
+      comes = λ q t first n. elim (law.same_or_not q w) [
         | inl e ↦ subst (λ z. Goes N H (H.prev z) z) (sym e) (subst (λ z. Goes N H z w) (sym m.prev) new)
         | inr nw ↦
-            let g = h.flow.comes q o (used_before q t n) first nw in
+            let g = h.flow.comes q (used_before q t n) first nw in
             let na : G.prev q ≡ a → ⊥ = λ e. elim b.how [
               | inl i ↦ unlike a (G.prev q) i.0 g.used (sym e)
               | inr f ↦ n (sym g.to ∙ ap G.next e ∙ f.0.to)
@@ -96,7 +100,7 @@ module _ {P : Type 0} (N : Net P) (law : Lawful N) (G H : Flow P) (L : Labels P)
     };
     labels = record {
       entry = h.labels.entry;
-      entered = λ p o f t n. h.labels.entered p o f (used_before p t n) (λ e. law.not_first link (subst N.First e f));
+      entered = λ p t f n. h.labels.entered p (used_before p t n) f (λ e. law.not_first link (subst N.First e f));
       along = λ p y j d z c reach. elim (bears_back p y j d) [
         | inl e ↦
             let up = h.labels.along a x k b z c (subst (λ q. Reaches N q z c) e.0 reach) in

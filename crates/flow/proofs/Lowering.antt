@@ -1,31 +1,28 @@
 -- A label on trial is lowered, and what is known of the labels stays. Assumes nothing.
-use Rattle.std.proofs.Common.{◌≡◌, ℕ, ◌+◌, ◌<◌, ◌≤◌, true, sym, ap, ◌∙◌, subst, inl, inr, arith}
+use Rattle.std.proofs.Common.{◌≡◌, ℕ, ◌+◌, ◌<◌, ◌≤◌, Bool, true, sym, ap, ◌∙◌, subst, inl, inr, arith}
 use Rattle.std.proofs.lemmas.Bool.{both_ways}
 use Rattle.flow.specs.Nets.{Net, Lawful, Flow, Bears, Reaches}
-use Rattle.flow.proofs.Bearing.{bears_itself}
 use Rattle.flow.specs.Fits.{Labels, Fits, NoHole}
 use Rattle.flow.specs.Seeks.{Why, Marks, Cause, Tells, Seeking, Offer, Lowers}
+use Rattle.flow.proofs.Bearing.{bears_itself}
 
-module _ {P : Type 0} (N : Net P) (law : Lawful N) (F : Flow P) (L : Labels P) (W : ℕ) (h : Fits N F L NoHole)
-    (M : Marks P) (s : Seeking N F L W M) (w : P) (v : ℕ) (y : Why P) (offer : Offer N F M.label w v y) where
-  pub offer_usable : N.Usable w
-  offer_usable = elim offer [
-    | Offer.by_entry r o f free is ↦ o
-    | Offer.by_place a u k c r b reach is pin ↦ elim reach [ inl l ↦ law.to l.0 | inr e ↦ subst N.Usable (sym e.0) b.from ]
-  ]
+module _ {P : Type 0} {N : Net P} (law : Lawful N) {F : Flow P} {L : Labels P} (h : Fits N F L NoHole) {W : ℕ} {waiting : P → Bool} {M : Marks P}
+    (s : Seeking N F L W waiting M) {w : P} {v : ℕ} {y : Why P} (offer : N.Usable w → Offer N F M.label w v y) (low : v < M.label w) where
+  usable : N.Usable w
+  usable = s.usable w (omega arith)
 
-  pub offer_high : L.into w ≤ v
-  offer_high = elim offer [
-    | Offer.by_entry r o f free is ↦ omega (arith, h.labels.entry w o f)
+  pub high : L.into w ≤ v
+  high = elim (offer usable) [
+    | Offer.by_entry r f free is ↦ omega (arith, h.labels.entry w usable f)
     | Offer.by_place a u k c r b reach is pin ↦ omega (arith, s.above u b.to, h.labels.along a u k b w c reach)
   ]
 
   -- no label is lowered by itself
-  unlike : (a u : P) (k c : ℕ) → Bears N F a u k → Reaches N a w c → v + k ≡ M.label u + c → v < M.label w → u ≡ w → ⊥
-  unlike a u k c b reach is low e =
-      omega (arith, ap M.label e, bears_itself N F law NoHole h.flow a u k c b (subst (λ z. Reaches N a z c) (sym e) reach))
+  unlike : (a u : P) (k c : ℕ) → Bears N F a u k → Reaches N a w c → v + k ≡ M.label u + c → u ≡ w → ⊥
+  unlike a u k c b reach is e =
+      omega (arith, ap M.label e, bears_itself law h.flow c b (subst (λ z. Reaches N a z c) (sym e) reach))
 
-  module _ (K : Marks P) (l : Lowers N F L M K w v y) (low : v < M.label w) where
+  module _ {waits : P → Bool} {K : Marks P} (l : Lowers N F L waiting waits M K w v y) where
     falls : (x : P) → K.label x ≤ M.label x
     falls x = elim (law.same_or_not x w) [
       | inl e ↦ omega (arith, ap K.label e, ap M.label e, l.label)
@@ -34,12 +31,12 @@ module _ {P : Type 0} (N : Net P) (law : Lawful N) (F : Flow P) (L : Labels P) (
 
     -- the label above w has a cause
     because : Cause N F K w
-    because = elim offer [
-      | Offer.by_entry r o f free is ↦ Cause.by_entry (l.why ∙ r) f (omega (arith, l.label))
+    because = elim (offer usable) [
+      | Offer.by_entry r f free is ↦ Cause.by_entry (l.why ∙ r) f (omega (arith, l.label))
       | Offer.by_place a u k c r b reach is pin ↦
-          let same = l.others u (unlike a u k c b reach is low) in
+          let same = l.others u (unlike a u k c b reach is) in
           Cause.by_place a u k c (l.why ∙ r) b reach (omega (arith, l.label, same.label))
-          (λ e. omega (arith, l.stamp, same.stamp, s.clocked u b.to))
+          (λ e. omega (arith, l.stamp, same.stamp, s.clocked u))
     ]
 
     -- and any other the one that it had
@@ -57,15 +54,15 @@ module _ {P : Type 0} (N : Net P) (law : Lawful N) (F : Flow P) (L : Labels P) (
         ])
 
     fresh : N.First w → F.used w ≡ true → ⊥
-    fresh f t = elim offer [
-      | Offer.by_entry r o g free is ↦ both_ways (F.used w) free t
-      | Offer.by_place a u k c r b reach is pin ↦ omega (arith, pin f, offer_high, h.labels.entered w offer_usable f t (λ x. x))
+    fresh f t = elim (offer usable) [
+      | Offer.by_entry r g free is ↦ both_ways (F.used w) free t
+      | Offer.by_place a u k c r b reach is pin ↦ omega (arith, pin f, high, h.labels.entered w t f (λ x. x))
     ]
 
     tells : L.exit + K.rise < W → Tells N F L K K.last
     tells room = elim l.closer [
       | inl r ↦ subst (Tells N F L K) (sym r.4) (record {
-        usable = offer_usable;
+        usable = usable;
         last = r.0;
         unused = r.1;
         is = omega (arith, l.label, r.3);
@@ -82,27 +79,32 @@ module _ {P : Type 0} (N : Net P) (law : Lawful N) (F : Flow P) (L : Labels P) (
           })
     ]
 
-    pub lowered : Seeking N F L W K
+    pub lowered : Seeking N F L W waits K
     lowered = record {
       above = λ u o. elim (law.same_or_not u w) [
-        | inl e ↦ omega (arith, ap K.label e, ap L.into e, l.label, offer_high)
+        | inl e ↦ omega (arith, ap K.label e, ap L.into e, l.label, high)
         | inr n ↦ omega (arith, (l.others u n).label, s.above u o)
       ];
+      high = λ u. omega (arith, falls u, s.high u);
+      usable = λ u p. elim (law.same_or_not u w) [
+        | inl e ↦ subst N.Usable (sym e) usable
+        | inr n ↦ s.usable u (omega (arith, (l.others u n).label))
+      ];
       quiet = λ a u k b m q x c reach.
-          let n : u ≡ w → ⊥ = λ e. both_ways (K.waits w) (sym (ap K.waits e) ∙ q) l.waits in
+          let n : u ≡ w → ⊥ = λ e. both_ways (waits w) (sym (ap waits e) ∙ q) l.wait in
           let same = l.others u n in
-          omega (arith, s.quiet a u k b (omega (arith, same.label)) (sym same.waits ∙ q) x c reach, falls x, same.label);
+          omega (arith, s.quiet a u k b (omega (arith, same.label)) (sym same.wait ∙ q) x c reach, falls x, same.label);
       caused = λ a x k b m. elim (law.same_or_not x w) [
         | inl e ↦ subst (Cause N F K) (sym e) because
         | inr n ↦ still x n (s.caused a x k b (omega (arith, (l.others x n).label)))
       ];
-      waiting = λ u o q f t. elim (law.same_or_not u w) [
-        | inl e ↦ fresh (subst N.First e f) (sym (ap F.used e) ∙ t)
-        | inr n ↦ s.waiting u o (sym (l.others u n).waits ∙ q) f t
+      waiting = λ u q. elim (law.same_or_not u w) [
+        | inl e ↦ subst (λ z. N.Usable z × (N.First z → F.used z ≡ true → ⊥)) (sym e) (usable, fresh)
+        | inr n ↦ s.waiting u (sym (l.others u n).wait ∙ q)
       ];
-      clocked = λ u o. elim (law.same_or_not u w) [
+      clocked = λ u. elim (law.same_or_not u w) [
         | inl e ↦ omega (arith, ap K.stamp e, l.stamp, l.clock)
-        | inr n ↦ omega (arith, (l.others u n).stamp, l.clock, s.clocked u o)
+        | inr n ↦ omega (arith, (l.others u n).stamp, l.clock, s.clocked u)
       ];
       cap = elim l.closer [ inl r ↦ omega (arith, r.2, r.3, s.cap) | inr r ↦ omega (arith, r.1, s.cap) ];
       bound = λ x o m f. elim (law.same_or_not x w) [

@@ -5,8 +5,8 @@ use Rattle.flow.specs.Nets.{Net, Lawful, Flow, Goes}
 use Rattle.flow.specs.Fits.{Labels, Fits, NoHole}
 use Rattle.flow.specs.Moves.{Opened}
 
-module _ {P : Type 0} (N : Net P) (law : Lawful N) (G H : Flow P) (L : Labels P) (e : P) (h : Fits N G L NoHole) (last : N.Last e) (free : G.used e ≡ false)
-    (m : Opened G H e) where
+module _ {P : Type 0} {N : Net P} (law : Lawful N) {G H : Flow P} {L : Labels P} (h : Fits N G L NoHole) {e : P} (usable : N.Usable e) (last : N.Last e)
+    (free : G.used e ≡ false) (m : Opened G H e) where
   unlike : (p q : P) → G.used p ≡ false → G.used q ≡ true → p ≡ q → ⊥
   unlike p q f t e = both_ways (G.used p) f (ap G.used e ∙ t)
 
@@ -30,6 +30,7 @@ module _ {P : Type 0} (N : Net P) (law : Lawful N) (G H : Flow P) (L : Labels P)
   pub open_fits : Fits N H L (λ p. p ≡ e)
   open_fits = record {
     flow = record {
+      usable = λ p t. elim (law.same_or_not p e) [ inl i ↦ subst N.Usable (sym i) usable | inr n ↦ h.flow.usable p (used_before p t n) ];
       goes = λ p q g. let t = h.flow.goes p q (back p q g) in record {
         link = t.link;
         used = used_still q t.used;
@@ -37,15 +38,15 @@ module _ {P : Type 0} (N : Net P) (law : Lawful N) (G H : Flow P) (L : Labels P)
         charge = m.charge q ∙ t.charge;
         whole = λ i. unlike e q free t.used (sym i);
       };
-      comes = λ q o t first n.
-          let g = h.flow.comes q o (used_before q t n) first (λ x. x) in
+      comes = λ q t first n.
+          let g = h.flow.comes q (used_before q t n) first (λ x. x) in
           subst (λ z. Goes N H z q) (sym (m.prev q))
           (record { usable = g.usable; used = used_still (G.prev q) g.used; not_last = g.not_last; to = m.next (G.prev q) ∙ g.to });
       idle = λ q o f. let is = h.flow.idle q o (unused_before q f) in (m.prev q ∙ is.0, m.charge q ∙ is.1);
     };
     labels = record {
       entry = h.labels.entry;
-      entered = λ p o f t n. h.labels.entered p o f (used_before p t n) (λ x. x);
+      entered = λ p t f n. h.labels.entered p (used_before p t n) f (λ x. x);
       along = λ a u k b. h.labels.along a u k (record {
         from = b.from;
         to = b.to;
@@ -56,19 +57,20 @@ module _ {P : Type 0} (N : Net P) (law : Lawful N) (G H : Flow P) (L : Labels P)
     };
   }
 
-module _ {P : Type 0} (N : Net P) (law : Lawful N) (G : Flow P) (L : Labels P) (w : P) (h : Fits N G L (λ p. p ≡ w)) where
+module _ {P : Type 0} {N : Net P} (law : Lawful N) {G : Flow P} {L : Labels P} {w : P} (h : Fits N G L (λ p. p ≡ w)) where
   pub end_fits : N.First w → L.into w ≡ N.entry w → Fits N G L NoHole
   end_fits first is = record {
     flow = record {
+      usable = h.flow.usable;
       goes = λ p q g. let t = h.flow.goes p q g in record { link = t.link; used = t.used; prev = t.prev; charge = t.charge; whole = λ x. x };
-      comes = λ q o t nf n. h.flow.comes q o t nf (λ e. nf (subst N.First (sym e) first));
+      comes = λ q t nf n. h.flow.comes q t nf (λ e. nf (subst N.First (sym e) first));
       idle = h.flow.idle;
     };
     labels = record {
       entry = h.labels.entry;
-      entered = λ p o f t n. elim (law.same_or_not p w) [
+      entered = λ p t f n. elim (law.same_or_not p w) [
         | inl e ↦ subst (λ z. L.into z ≡ N.entry z) (sym e) is
-        | inr nw ↦ h.labels.entered p o f t nw
+        | inr nw ↦ h.labels.entered p t f nw
       ];
       along = h.labels.along;
       last = h.labels.last;

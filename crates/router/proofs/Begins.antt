@@ -1,29 +1,38 @@
 -- How a search begins, on arrays. Assumes nothing.
 use Rattle.std.proofs.Common.{◌≡◌, ℕ, ◌-◌, ◌<◌, ◌≤◌, false, cond, ◌⊎◌, length, get_or, ◌∙◌, inl, inr, arith}
-use Rattle.std.proofs.lemmas.Bool.{both_ways, cases_lt, cases_Bool, cond_both, cond-true, cond-false}
+use Rattle.std.proofs.lemmas.Bool.{cases_lt, cases_Bool, cond-true, cond-false}
 use Rattle.std.proofs.lemmas.List.{get_or_past}
 use Rattle.flow.proofs.Starting as Starting
 use Rattle.plans.specs.Tolls.{worth}
-use Rattle.router.specs.declared.board.TheConstants.{ROW}
+use Rattle.router.specs.declared.board.TheConstants.{CELLS, ROW}
 use Rattle.router.specs.declared.search.Search.{Search}
 use Rattle.router.specs.declared.board.Board.{Board}
-use Rattle.router.specs.Boards.{Used, net_of, flow_of, labels_of, Standing}
-use Rattle.router.specs.Searches.{Seeks, EnteredTo, label_of, marks_of}
+use Rattle.router.specs.Boards.{Usable, Used, Standing}
+use Rattle.router.specs.Searches.{Seeks, EnteredTo, label_of, waits_of}
 use Rattle.router.proofs.Cells.{within, lawful}
 
--- Nothing is lowered yet.
-module _ (b : Board) (h : Standing b) (s : Search) (long : length s.label ≡ 4290)
-    (n : ℕ) (all : n ≡ ROW) (is : (k : ℕ) → k < 4290 → (n ≤ k) ⊎ (get_or b.ways.used k false ≡ false) → label_of s k ≡ cond (get_or b.grid.usable k false) worth 0)
+-- Nothing is lowered yet, and the used cells of the first n, which is the first row, have their entry charges.
+module _ {b : Board} (h : Standing b) (s : Search) (long : length s.label ≡ CELLS) (n : ℕ) (all : n ≡ ROW)
+    (plain : (k : ℕ) → k < CELLS → (n ≤ k) ⊎ (get_or b.ways.used k false ≡ false) → label_of s k ≡ cond (get_or b.grid.usable k false) worth 0)
     (pinned : (k : ℕ) → k < n → Used b.ways k → label_of s k ≡ get_or b.grid.entries k 0)
-    (off : (k : ℕ) → get_or s.waits k false ≡ false) (rise : s.rise ≡ worth - b.labels.exit) where
-  past : (k : ℕ) → 4290 ≤ k → label_of s k ≡ 0
-  past k l = get_or_past s.label k 0 (omega arith)
-
-  either : (k : ℕ) → k < 4290 →
+    (quiet : (k : ℕ) → waits_of s k ≡ false) (rise : s.rise ≡ worth - b.labels.exit) where
+  either : (k : ℕ) → k < CELLS →
       (label_of s k ≡ cond (get_or b.grid.usable k false) worth 0) ⊎ ((k < ROW) × Used b.ways k × (label_of s k ≡ get_or b.grid.entries k 0))
-  either k l = elim (cases_lt k ROW) [
-    | inl m ↦ elim (cases_Bool (get_or b.ways.used k false)) [ inl t ↦ inr (m, t, pinned k (omega arith) t) | inr f ↦ inl (is k l (inr f)) ]
-    | inr m ↦ inl (is k l (inl (omega arith)))
+  either k l = elim (cases_lt k n) [
+    | inl m ↦ elim (cases_Bool (get_or b.ways.used k false)) [ inl t ↦ inr (omega arith, t, pinned k m t) | inr f ↦ inl (plain k l (inr f)) ]
+    | inr m ↦ inl (plain k l (inl m))
+  ]
+
+  usable : (u : ℕ) → 0 < label_of s u → Usable b.grid u
+  usable u p = elim (cases_lt u CELLS) [
+    | inl l ↦ elim (either u l) [
+      | inl e ↦ elim (cases_Bool (get_or b.grid.usable u false)) [
+        | inl t ↦ t
+        | inr f ↦ absurd (omega (arith, e ∙ cond-false (get_or b.grid.usable u false) worth 0 f))
+      ]
+      | inr i ↦ h.fits.flow.usable u i.1
+    ]
+    | inr l ↦ absurd (omega (arith, get_or_past s.label u 0 (omega arith)))
   ]
 
   seeks : Seeks b s
@@ -31,30 +40,16 @@ module _ (b : Board) (h : Standing b) (s : Search) (long : length s.label ≡ 42
     standing = h;
     stamp = λ u. 0;
     clock = 0;
-    seeking = Starting.blank (net_of b.grid) (lawful b.grid h.shape) (flow_of b.ways) (labels_of b.labels) worth h.fits (marks_of s (λ u. 0) 0) (record {
-      label = λ u ok. elim (either u (omega (arith, within b.grid h.shape u ok))) [
+    seeking = Starting.blank (lawful h.shape) h.fits (record {
+      usable = usable;
+      label = λ u ok. elim (either u (omega (arith, within h.shape ok))) [
         | inl e ↦ inl (e ∙ cond-true (get_or b.grid.usable u false) worth 0 ok)
         | inr i ↦ inr i
       ];
-      waits = λ u ok. off u;
-      stamp = λ u ok. omega arith;
+      quiet = quiet;
+      stamp = λ u. omega arith;
       rise = omega (arith, h.top);
     });
-    unusable = λ u f. elim (cases_lt u 4290) [
-      | inl l ↦ elim (either u l) [
-        | inl e ↦ e ∙ cond-false (get_or b.grid.usable u false) worth 0 f
-        | inr i ↦ absurd (both_ways (get_or b.grid.usable u false) f (h.usable u i.1))
-      ]
-      | inr l ↦ past u l
-    ];
-    waiting = λ u t. absurd (both_ways (get_or s.waits u false) (off u) t);
-    high = λ u. elim (cases_lt u 4290) [
-      | inl l ↦ elim (either u l) [
-        | inl e ↦ omega (arith, cond_both (get_or b.grid.usable u false) worth 0 (λ i. i ≤ worth) (λ e. omega arith) (λ e. omega arith))
-        | inr i ↦ omega (arith, i.2, h.shape.entries u)
-      ]
-      | inr l ↦ omega (arith, past u l)
-    ];
   }
 
   entered : EnteredTo b s 0

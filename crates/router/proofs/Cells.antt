@@ -3,26 +3,27 @@ use Rattle.std.proofs.Common.{◌≡◌, ℕ, ◌+◌, ◌<◌, ◌≤◌, List,
 use Rattle.std.proofs.lemmas.Bool.{cases_eq, cases_lt}
 use Rattle.std.proofs.lemmas.List.{get_or-replicate, get_or_past, length-replicate}
 use Rattle.flow.specs.Nets.{Lawful}
-use Rattle.router.specs.declared.board.TheConstants.{ROW}
+use Rattle.router.specs.declared.board.TheConstants.{CELLS, ROW}
 use Rattle.router.specs.declared.board.Grid.{Grid}
 use Rattle.router.specs.Boards.{Usable, net_of, Shape}
 
--- where usable cells are
-pub within : (g : Grid) → Shape g → (u : ℕ) → Usable g u → (1 ≤ u) × (u + 1 < g.last + ROW) × (u < 4223)
-within g h u ok =
-    let sides = h.sides u ok in
-    let low = h.inside u ok in
-    (omega (arith, sides.0), omega (arith, sides.1, h.whole), omega (arith, sides.1, h.whole, h.rows))
+module _ {g : Grid} (h : Shape g) where
+  -- where usable cells are
+  pub within : {u : ℕ} → Usable g u → (1 ≤ u) × (u + 1 < g.last + ROW) × (u + ROW + 1 < CELLS)
+  within {u = u} ok =
+      let sides = h.sides u ok in
+      let low = h.inside u ok in
+      (omega (arith, sides.0), omega (arith, sides.1, h.whole), omega (arith, sides.1, h.whole, h.rows))
 
-pub lawful : (g : Grid) → Shape g → Lawful (net_of g)
-lawful g h = record {
-  same_or_not = cases_eq;
-  from = λ a. a.from;
-  to = λ a. a.to;
-  apart = λ a e. omega (arith, a.left);
-  not_last = λ a l. omega (arith, within g h _ a.to, a.left);
-  not_first = λ a f. omega (arith, within g h _ a.from, a.left);
-}
+  pub lawful : Lawful (net_of g)
+  lawful = record {
+    same_or_not = cases_eq;
+    from = λ a. a.from;
+    to = λ a. a.to;
+    apart = λ a e. omega (arith, a.left);
+    not_last = λ a l. omega (arith, within a.to, a.left);
+    not_first = λ a f. omega (arith, within a.from, a.left);
+  }
 
 -- what is set at u holds there, and elsewhere what held
 pub at_set : {A : Type 0} (xs : List A) (u x : ℕ) (v d : A) → u < length xs → (P : A → Type 0) →

@@ -14,9 +14,6 @@ seeks b s q h = record {
   stamp = h.stamp;
   clock = h.clock;
   seeking = h.seeking;
-  unusable = h.unusable;
-  waiting = h.waiting;
-  high = h.high;
 }
 
 pub begun : (b : Board) (s : Search) (q : Queue) → Begun b s → Begun b (with_queue s q)

@@ -52,13 +52,11 @@ pub record Shape (g : Grid) : Type 0 where
   pub entries : (u : ℕ) → slice_index g.entries u ≤ 1000
   pub links : (u e : ℕ) → slice_index (slice_index_or g.links u []) e ≤ 1000
 
--- the ways are whole, and the labels fit them
+-- the ways are whole, and the labels fit them, up to the worth
 pub record Standing (b : Board) : Type 0 where
   pub shape : Shape b.grid
-  pub usable : (u : ℕ) → Used b.ways u → Usable b.grid u
   pub fits : Fits (net_of b.grid) (flow_of b.ways) (labels_of b.labels) NoHole
-  pub low : (u : ℕ) → slice_index b.labels.into u ≤ b.labels.exit
-  pub blank : (u : ℕ) → slice_index_or b.grid.usable u false ≡ false → slice_index b.labels.into u ≡ 0
+  pub labelled : (u : ℕ) → 0 < slice_index b.labels.into u → Usable b.grid u
   pub top : b.labels.exit ≤ worth
 
 -- the cell that bears the label below a

@@ -1,12 +1,12 @@
 -- What a walk keeps. Assumes nothing.
-use Rattle.std.specs.Prelude.{◌≡◌, ℕ, ◌<◌, ◌≤◌, false, cond, Option, MatchOption, nat_lt, slice_index, slice_index_or}
+use Rattle.std.specs.Prelude.{◌≡◌, ℕ, ◌<◌, false, cond, Option, MatchOption, nat_lt, slice_index, slice_index_or}
 use Rattle.flow.specs.Nets.{Flow}
 use Rattle.flow.specs.Walks.{Settled, Walk}
 use Rattle.plans.specs.Tolls.{worth, sum_below}
 use Rattle.router.specs.declared.search.Search.{Search}
 use Rattle.router.specs.declared.board.TheConstants.{CELLS}
 use Rattle.router.specs.declared.board.Board.{Board}
-use Rattle.router.specs.Boards.{Usable, Used, net_of, flow_of, labels_of, Shape, Standing}
+use Rattle.router.specs.Boards.{Usable, net_of, flow_of, labels_of, Shape, Standing}
 use Rattle.router.specs.Searches.{marks_of}
 
 -- how many cells were lowered before w
@@ -16,10 +16,8 @@ earlier stamp w = sum_below CELLS (λ u. cond (nat_lt (stamp u) (stamp w)) 1 0)
 -- there is a hole at w, and less than n moves are still to come
 pub record Walks (b : Board) (s : Search) (w n : ℕ) : Type 0 where
   pub shape : Shape b.grid
-  pub usable : (u : ℕ) → Used b.ways u → Usable b.grid u
-  pub low : (u : ℕ) → slice_index b.labels.into u ≤ b.labels.exit
-  pub blank : (u : ℕ) → slice_index_or b.grid.usable u false ≡ false → slice_index b.labels.into u ≡ 0
   pub room : b.labels.exit < worth
+  pub labelled : (u : ℕ) → 0 < slice_index b.labels.into u → Usable b.grid u
   pub before : Flow ℕ
   pub stamp : ℕ → ℕ
   pub clock : ℕ

@@ -2,8 +2,8 @@
 ghost use Rattle.std.specs.Prelude.{◌≡◌, ℕ, ◌+◌, ◌<◌, ◌≤◌, true, false, slice_index, slice_index_or};
 ghost use Rattle.flow.specs.Seeks.{Offer, Closer};
 ghost use Rattle.plans.specs.Tolls.{worth};
-ghost use Rattle.router.specs.Boards.{Standing, net_of, flow_of, labels_of};
-ghost use Rattle.router.specs.Searches.{Seeks, EnteredTo, Begun, Lowered, RestsAt, label_of, reason, work};
+ghost use Rattle.router.specs.Boards.{Standing, Usable, net_of, flow_of, labels_of};
+ghost use Rattle.router.specs.Searches.{Seeks, EnteredTo, Begun, Lowered, RestsAt, label_of, waits_of, reason, work};
 
 use crate::board::{Board, CELLS, ROW};
 use crate::queue::Queue;
@@ -59,8 +59,8 @@ impl Search {
     // Passes the label on trial of the cell `u` on to those that it bounds; the cell waits no more.
     fn scan(&mut self, board: &Board, u: usize)
         requires begun { Begun board.now self.old }
-        requires waits { slice_index_or self.old.waits u false ≡ true }
-        requires low { slice_index self.old.label u < worth }
+        requires waits { waits_of self.old u ≡ true }
+        requires low { label_of self.old u < worth }
         ensures begun { Begun board.now self.new }
         ensures less { work self.new < work self.old }
     {
@@ -113,7 +113,7 @@ impl Search {
     fn lower(&mut self, board: &Board, w: usize, v: u32, why: Why)
         requires seeks { Seeks board.now self.old }
         requires inside { w < CELLS }
-        requires offer { slice_index_or board.now.grid.usable w false ≡ true → Offer (net_of board.now.grid) (flow_of board.now.ways) (label_of self.old) w v (reason why) }
+        requires offer { Usable board.now.grid w → Offer (net_of board.now.grid) (flow_of board.now.ways) (label_of self.old) w v (reason why) }
         ensures seeks { Seeks board.now self.new }
         ensures lowered { Lowered self.old self.new w v }
     {

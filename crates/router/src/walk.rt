@@ -1,5 +1,5 @@
 //! The walk that makes one way more, back along the reasons from the last row to the first.
-ghost use Rattle.std.specs.Prelude.{◌≡◌, ℕ, ◌+◌, ◌<◌};
+ghost use Rattle.std.specs.Prelude.{◌≡◌, ℕ, ◌-◌, ◌<◌};
 ghost use Rattle.plans.specs.Tolls.{worth};
 ghost use Rattle.router.specs.Boards.{Standing};
 ghost use Rattle.router.specs.Searches.{Settled};
@@ -37,8 +37,8 @@ fn finish(board: &mut Board, search: &Search, w: usize)
 
 // One move from the hole `w`: where the hole is then, or nothing at the end.
 fn step(board: &mut Board, search: &Search, w: usize) -> Option<usize>
-    requires { (n : ℕ) × Walks board.old search.now w (n + 1) }
-    ensures steps { (n : ℕ) → Walks board.old search.now w (n + 1) → Stepped board.new search.now n result }
+    requires { (n : ℕ) × Walks board.old search.now w n }
+    ensures steps { (n : ℕ) → Walks board.old search.now w n → Stepped board.new search.now (n - 1) result }
     ensures others { Rerouted board.old board.new }
 {
     match search.why[w] {
