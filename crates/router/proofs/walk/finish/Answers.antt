@@ -4,12 +4,6 @@ use Rattle.router.specs.Walking.{Walks}
 use Rattle.router.proofs.Moves.{rerouted_on}
 use Rattle.router.proofs.walk.finish.Goals as goal
 
-pub loop-init : goal.loop-init
-loop-init c = record { walks = c.requires; others = record { spare = refl; others = refl } }
-
-pub step-requires : goal.step-requires
-step-requires c = (CELLS - c.loop.counter, c.loop.invariant.walks)
-
 pub loop-preserved : goal.loop-preserved
 loop-preserved c = record {
   walks = subst (Walks c.step.new.board c.args.search.now c.in-Some.next) (omega arith) (c.in-Some.ensures.steps (CELLS - c.loop.counter) c.loop.invariant.walks);
@@ -22,5 +16,3 @@ returns-in-None c = record {
   others = rerouted_on c.loop.invariant.others c.in-None.ensures.others;
 }
 
-pub returns-clause-standing : goal.returns-clause-standing
-returns-clause-standing c = absurd (omega (arith, c.loop.invariant.walks.few))
