@@ -1,0 +1,2 @@
+pub mod Holds
+pub mod Theorems

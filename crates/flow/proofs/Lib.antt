@@ -1,0 +1,9 @@
+pub mod Bearing
+pub mod Starting
+pub mod Lowering
+pub mod Scanning
+pub mod Closing
+pub mod Opening
+pub mod Linking
+pub mod Dropping
+pub mod Walking

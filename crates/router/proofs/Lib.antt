@@ -1,0 +1,10 @@
+pub mod Sums
+pub mod Cells
+pub mod Starts
+pub mod Begins
+pub mod Queues
+pub mod Lowers
+pub mod Scans
+pub mod Raises
+pub mod Moves
+pub mod Lows

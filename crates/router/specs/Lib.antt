@@ -1,0 +1,4 @@
+pub mod Boards
+pub mod Searches
+pub mod Walking
+pub mod Tolls
