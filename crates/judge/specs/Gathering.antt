@@ -1,4 +1,4 @@
--- What the code holds of a sheet while it is read. Assumes nothing.
+-- What the code holds of a sheet while it is read: only the contracts of private functions cite it. Assumes nothing.
 use Rattle.std.specs.Prelude.{◌≡◌, ℕ, Bool, true, ◌&&◌, ◌||◌, ◌==◌, nat_lt, List, [], ◌∷◌, ◌++◌, length, Some, None, Ok, Err, Option, Result}
 use Rattle.host.specs.declared.Host.{Host}
 use Rattle.tariff.specs.declared.pe.Pe.{Pe}
