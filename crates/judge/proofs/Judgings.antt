@@ -1,5 +1,5 @@
 -- What is judged, by what the code has at its end. Assumes nothing.
-use Rattle.std.proofs.Common.{◌≡◌, ℕ, ◌^◌, ◌<◌, List, [], ◌∷◌, ◌++◌, length, Ok, Err, Result, sym, refl, ap, ◌∙◌, arith}
+use Rattle.std.proofs.Common.{◌≡◌, ℕ, ◌^◌, ◌<◌, List, [], ◌∷◌, ◌++◌, length, Ok, Err, sym, ap, ◌∙◌, arith}
 use Rattle.host.specs.declared.Host.{Host}
 use Rattle.host.specs.Refusals.{answered}
 use Rattle.tariff.specs.Meaning.{Meaning}
@@ -14,7 +14,7 @@ use Rattle.verdict.specs.Judging.{Gathered, Accepted, blank, gathered, verdict_f
 use Rattle.judge.specs.declared.gathering.Gathering.{Gathering}
 use Rattle.judge.specs.Gathering.{Holds, AnswersAs}
 use Rattle.judge.specs.Judge.{number_and_total, plan_of, judge_answer, plan_after}
-use Rattle.judge.proofs.Answers.{Given, given, refused_so, allowed_so}
+use Rattle.judge.proofs.Outcomes.{Given, given, refused_so, allowed_so}
 use Rattle.judge.proofs.Cells.{trailing}
 use Rattle.judge.proofs.Limits.{few}
 use Rattle.judge.proofs.Settlings.{all_charged, full_columns}

@@ -1,8 +1,8 @@
 -- What may follow the last of a list. Assumes nothing.
-use Rattle.std.proofs.Common.{◌≡◌, ℕ, zero, suc, ◌+◌, ◌-◌, ◌<◌, Bool, true, List, [], ◌∷◌, ◌++◌, length, get_or, Some, None, sym, refl, ap, ◌∙◌, arith}
+use Rattle.std.proofs.Common.{◌≡◌, ℕ, zero, suc, ◌+◌, Bool, true, List, [], ◌∷◌, ◌++◌, length, get_or, Some, sym, refl, ap, arith}
 use Rattle.sheet.specs.declared.record.Toll.{Toll}
 use Rattle.verdict.specs.Judging.{may_follow, before}
-use Rattle.judge.specs.Gathering.{last_of, after_last}
+use Rattle.judge.specs.Gathering.{last_toll, after_last}
 
 module _ {X Y : Type 0} (test : X → Y → Bool) where
   -- nothing has come
@@ -17,13 +17,13 @@ module _ {X Y : Type 0} (test : X → Y → Bool) where
   follow-last (x ∷ x' ∷ xs) y zero d e = absurd (omega arith)
   follow-last (x ∷ x' ∷ xs) y (suc n) d e = follow-last (x' ∷ xs) y n d (omega arith)
 
--- tolls, by the last of them
-pub follow-toll : (ts : List Toll) (t : Toll) → may_follow before ts t ≡ after_last (last_of ts) t
+-- tolls, by the PE of the last of them
+pub follow-toll : (ts : List Toll) (t : Toll) → may_follow before ts t ≡ after_last (last_toll ts) (record { row = t.row; column = t.column })
 follow-toll [] t = refl
 follow-toll (d ∷ []) t = refl
 follow-toll (d ∷ d' ∷ ts) t = follow-toll (d' ∷ ts) t
 
-pub last_of-push : {X : Type 0} (xs : List X) (x : X) → last_of (xs ++ x ∷ []) ≡ Some x
-last_of-push [] x = refl
-last_of-push (y ∷ []) x = refl
-last_of-push (y ∷ y' ∷ xs) x = last_of-push (y' ∷ xs) x
+pub last_toll-push : (ts : List Toll) (t : Toll) → last_toll (ts ++ t ∷ []) ≡ Some (record { row = t.row; column = t.column })
+last_toll-push [] t = refl
+last_toll-push (d ∷ []) t = refl
+last_toll-push (d ∷ d' ∷ ts) t = last_toll-push (d' ∷ ts) t

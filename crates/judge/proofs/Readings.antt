@@ -1,6 +1,6 @@
 -- The records of a sheet, taken in one after another. Assumes nothing.
-use Rattle.std.proofs.Common.{◌≡◌, ℕ, ◌+◌, ◌<◌, true, false, List, [], length, drop, Ok, Err, Result, sym, refl, ap, ◌∙◌, subst, inl, inr, ⊎_elim, arith}
-use Rattle.std.proofs.lemmas.Bool.{cases_Bool, cond-true, cond-false}
+use Rattle.std.proofs.Common.{◌≡◌, ℕ, ◌+◌, ◌<◌, false, List, [], length, drop, Some, None, Option, Ok, Err, sym, refl, ap, ◌∙◌, subst, inl, inr, ⊎_elim, arith}
+use Rattle.std.proofs.lemmas.Bool.{cases_Bool, cond-false}
 use Rattle.std.proofs.lemmas.List.{drop-drop}
 use Rattle.host.specs.declared.Host.{Host}
 use Rattle.tariff.specs.Meaning.{Meaning}
@@ -10,7 +10,7 @@ use Rattle.sheet.specs.declared.record.Record.{Record}
 use Rattle.sheet.specs.declared.record.Record.TheVariants as r
 use Rattle.sheet.specs.declared.state.State.{State}
 use Rattle.sheet.specs.Records.{size, is_end}
-use Rattle.sheet.specs.Readings.{new_reader, taken, reader_after, reading_from, reading, Reading, stops, ends, then}
+use Rattle.sheet.specs.Readings.{new_reader, taken, reader_after, reading_from, reading}
 use Rattle.sheet.proofs.Nexts.{took}
 use Rattle.sheet.proofs.Runs.{only_end}
 use Rattle.sheet.proofs.Readings.{fewer, reading_stops, reading_took}
@@ -20,9 +20,17 @@ use Rattle.verdict.specs.declared.fault.JudgeFault.TheVariants.{Sheet, Card}
 use Rattle.verdict.specs.Judging.{Gathered, blank, checked, at_place, onward, gathered}
 use Rattle.verdict.proofs.Advancing.{Linked, linked_valid, advance, finish}
 use Rattle.judge.specs.declared.gathering.Gathering.{Gathering}
-use Rattle.judge.specs.Gathering.{gathering_of, Holds, AnswersAs, next_gathered}
-use Rattle.judge.proofs.Answers.{answers_ok}
+use Rattle.judge.specs.Gathering.{gathering_of, Holds, AnswersAs, next_gathered, end_at}
+use Rattle.judge.proofs.Outcomes.{answers_ok}
 use Rattle.judge.proofs.Nexts.{TakenIn, taken_in, stopped}
+
+at_end : (at place : ℕ) (x : Record) → Some place ≡ end_at at x → (x ≡ r.End) × (place ≡ at)
+at_end at place r.End e = (refl, cc)
+at_end at place _ e = absurd (cc)
+
+not_at_end : (at : ℕ) (x : Record) → None ≡ end_at at x → is_end x ≡ false
+not_at_end at r.End e = absurd (cc)
+not_at_end at _ e = refl
 
 -- a sheet that has been read up to a place
 pub record Underway (h : Host) (m : Meaning) (sheet : List ℕ) (reader : Reader) (s : Gathering) : Type 0 where
@@ -44,7 +52,7 @@ module _ (h : Host) (m : Meaning) (sheet : List ℕ) where
     holds = record { valid = linked_valid h reader.state u.so_far u.linked; is = u.is }
 
     -- a fault of the code is the fault of the sheet
-    pub faulty : (P : Gathered → Type 0) (y : JudgeFault) → AnswersAs (λ p. p.0) (λ p. P p.1) (Err y) (next_gathered h u.so_far reader.at (taken reader sheet)) →
+    pub faulty : (P : Gathered → Type 0) (y : JudgeFault) → AnswersAs (λ p. end_at reader.at p.0) (λ p. P p.1) (Err y) (next_gathered h u.so_far reader.at (taken reader sheet)) →
         gathered h blank (reading sheet) ≡ Err y
     faulty P y a = u.rest ∙ ⊎_elim (λ x. in_sheet x.0 x.1 ∙ ap Err (sym x.2)) (λ x. in_card x.0 x.1 x.2 x.3 ∙ ap Err (sym x.4)) (stopped h u.so_far reader.at P (taken reader sheet) y a)
       where
@@ -62,23 +70,30 @@ module _ (h : Host) (m : Meaning) (sheet : List ℕ) where
         ]
 
     -- the end record ends the sheet, and no column has begun then
-    pub finished : (s' : Gathering) (place : ℕ) (x : Record) → place ≡ reader.at → x ≡ r.End →
-        AnswersAs (λ p. p.0) (λ p. s' ≡ gathering_of h m p.1) (Ok x) (next_gathered h u.so_far reader.at (taken reader sheet)) →
+    pub finished : (s' : Gathering) (place : ℕ) (end : Option ℕ) → end ≡ Some place →
+        AnswersAs (λ p. end_at reader.at p.0) (λ p. s' ≡ gathering_of h m p.1) (Ok end) (next_gathered h u.so_far reader.at (taken reader sheet)) →
         AnswersAs (λ p. p.1) (λ p. Holds h m s' p.0 × (p.0.column ≡ [])) (Ok place) (gathered h blank (reading sheet))
-    finished s' place x l end b =
-        let a = subst (λ (y : Record). AnswersAs (λ p. p.0) (λ p. s' ≡ gathering_of h m p.1) (Ok y) (next_gathered h u.so_far reader.at (taken reader sheet))) end b in
-        let i = taken_in h u.so_far reader.at (λ g'. s' ≡ gathering_of h m g') (taken reader sheet) r.End a in
-        let same : u.so_far ≡ i.after = cc in
+    finished s' place end some a =
+        let i = taken_in h u.so_far reader.at (λ g'. s' ≡ gathering_of h m g') (taken reader sheet) end a in
+        let last = at_end reader.at place i.taken (sym some ∙ i.told) in
+        let took_end : taken reader sheet ≡ Ok (r.End, i.state) = i.took ∙ (λ k. Ok (last.0 k, i.state)) in
+        let same : u.so_far ≡ i.after = let passed = ap (checked h u.so_far) (sym last.0) ∙ i.passed in cc in
         let all : gathered h blank (reading sheet) ≡ Ok (u.so_far, reader.at) =
-        u.rest ∙ ap (gathered h u.so_far) (reading_took reader.state reader.at left (r.End, i.state) i.took) in
-        let whole = finish h reader.state i.state u.so_far u.linked (took reader.state reader.at left (r.End, i.state) i.took).turned in
-        answers_ok _ _ _ _ (u.so_far, reader.at) all (ap Ok l) (record { valid = holds.valid; is = i.holds ∙ ap (gathering_of h m) (sym same) }, whole.full)
+        u.rest ∙ ap (gathered h u.so_far) (reading_took reader.state reader.at left (r.End, i.state) took_end) in
+        let whole = finish h reader.state i.state u.so_far u.linked (took reader.state reader.at left (r.End, i.state) took_end).turned in
+        answers_ok _ _ _ _ (u.so_far, reader.at) all (ap Ok last.1) (record { valid = holds.valid; is = i.holds ∙ ap (gathering_of h m) (sym same) }, whole.full)
 
     -- any other record is followed by the rest
-    module _ (reader' : Reader) (s' : Gathering) (x : Record) (on : is_end x ≡ false) (moved : reader' ≡ reader_after reader (taken reader sheet))
-        (a : AnswersAs (λ p. p.0) (λ p. s' ≡ gathering_of h m p.1) (Ok x) (next_gathered h u.so_far reader.at (taken reader sheet))) where
-      i : TakenIn h u.so_far reader.at (λ g'. s' ≡ gathering_of h m g') (taken reader sheet) x
-      i = taken_in h u.so_far reader.at (λ g'. s' ≡ gathering_of h m g') (taken reader sheet) x a
+    module _ (reader' : Reader) (s' : Gathering) (end : Option ℕ) (none : end ≡ None) (moved : reader' ≡ reader_after reader (taken reader sheet))
+        (a : AnswersAs (λ p. end_at reader.at p.0) (λ p. s' ≡ gathering_of h m p.1) (Ok end) (next_gathered h u.so_far reader.at (taken reader sheet))) where
+      i : TakenIn h u.so_far reader.at (λ g'. s' ≡ gathering_of h m g') (taken reader sheet) end
+      i = taken_in h u.so_far reader.at (λ g'. s' ≡ gathering_of h m g') (taken reader sheet) end a
+
+      abbrev x : Record
+      x = i.taken
+
+      on : is_end x ≡ false
+      on = not_at_end reader.at x (sym none ∙ i.told)
 
       there : reader' ≡ record { state = i.state; at = reader.at + size x }
       there = moved ∙ ap (reader_after reader) i.took

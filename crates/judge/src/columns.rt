@@ -7,7 +7,7 @@ ghost use Rattle.routable.specs.Cards.{card_of};
 ghost use Rattle.host.specs.Refusals.{answered};
 ghost use Rattle.verdict.specs.Judging.{Gathered, blank, stepped, pe_fault, pe_checked, step_checked};
 ghost use Rattle.plans.specs.Least.{last};
-ghost use Rattle.judge.specs.Gathering.{charge_below, columns_of, HoldsColumns, AnswersAs};
+ghost use Rattle.judge.specs.Gathering.{charge_below, columns_of, HoldsColumns, ChecksAs};
 
 use crate::chart::Chart;
 use plans::held::HeldRow;
@@ -70,7 +70,9 @@ impl GatheredColumns {
     /// The next PE of the column that has begun, in a physical column, or what is wrong with it.
     fn next_pe(&self, chart: &Chart, column: u8) -> Result<Pe, CardFault>
         requires { (m : Meaning) × (g : Gathered) × HoldsColumns chart.now.host.now m self.now g }
-        ensures { (m : Meaning) (g : Gathered) → HoldsColumns chart.now.host.now m self.now g → result ≡ answered (pe_fault chart.now.host.now g column) (record { row = row (card_of chart.now.host.now) (length g.column); column = column }) }
+        ensures { let h = chart.now.host.now in
+            (m : Meaning) (g : Gathered) → HoldsColumns h m self.now g →
+            result ≡ answered (pe_fault h g column) (record { row = row (card_of h) (length g.column); column = column }) }
     {
         let Some(row) = chart.rows.get(self.place) else {
             return Err(CardFault::OutsideHost);
@@ -91,7 +93,8 @@ impl GatheredColumns {
     /// Puts the next PE of the column that has begun, or of a new one, in a physical column.
     pub fn put<T: Tariff>(&mut self, chart: &Chart, tariff: &T, column: u8) -> Result<(), CardFault>
         requires { (g : Gathered) × HoldsColumns chart.now.host.now (T.meaning tariff.now) self.old g }
-        ensures { (g : Gathered) → HoldsColumns chart.now.host.now (T.meaning tariff.now) self.old g → AnswersAs (λ g'. tt) (λ g'. self.new ≡ columns_of chart.now.host.now (T.meaning tariff.now) g') result (pe_checked chart.now.host.now g column) }
+        ensures { let h = chart.now.host.now in let m = T.meaning tariff.now in
+            (g : Gathered) → HoldsColumns h m self.old g → ChecksAs (λ g'. self.new ≡ columns_of h m g') result (pe_checked h g column) }
     {
         let pe = self.next_pe(chart, column)?;
         self.charge += charge_below(tariff, self.above, pe);
@@ -107,9 +110,15 @@ impl GatheredColumns {
     }
 
     /// Puts the next PE by a step from the last one.
-    pub fn step<T: Tariff>(&mut self, chart: &Chart, tariff: &T, step: Step) -> Result<(), CardFault>
+    pub fn step<T: Tariff>(
+        &mut self,
+        chart: &Chart,
+        tariff: &T,
+        step: Step,
+    ) -> Result<(), CardFault>
         requires { (g : Gathered) × HoldsColumns chart.now.host.now (T.meaning tariff.now) self.old g }
-        ensures { (g : Gathered) → HoldsColumns chart.now.host.now (T.meaning tariff.now) self.old g → AnswersAs (λ g'. tt) (λ g'. self.new ≡ columns_of chart.now.host.now (T.meaning tariff.now) g') result (step_checked chart.now.host.now g (stepped step (last g.column))) }
+        ensures { let h = chart.now.host.now in let m = T.meaning tariff.now in
+            (g : Gathered) → HoldsColumns h m self.old g → ChecksAs (λ g'. self.new ≡ columns_of h m g') result (step_checked h g (stepped step (last g.column))) }
     {
         let from = self.above.map_or(0, |pe| pe.column);
         let Some(column) = stepped(step, from) else {

@@ -47,8 +47,8 @@ pub fn judge<T: Tariff>(
 /// What is wrong with the whole of a sheet, if anything is.
 fn settle<T: Tariff>(gathering: &Gathering, chart: &Chart, tariff: &T) -> Result<(), CardFault>
     requires { (g : Gathered) × Holds chart.now.host.now (T.meaning tariff.now) gathering.now g × (g.column ≡ []) }
-    ensures { (g : Gathered) → Holds chart.now.host.now (T.meaning tariff.now) gathering.now g → g.column ≡ [] →
-        result ≡ answered (verdict_fault (card_of chart.now.host.now) (T.meaning tariff.now) g) tt }
+    ensures { let h = chart.now.host.now in let m = T.meaning tariff.now in
+        (g : Gathered) → Holds h m gathering.now g → g.column ≡ [] → result ≡ answered (verdict_fault (card_of h) m g) tt }
 {
     let columns = &gathering.columns;
     let tolls = &gathering.tolls;

@@ -2,11 +2,10 @@
 ghost use Rattle.std.specs.Prelude.{◌≡◌, []};
 ghost use Rattle.host.specs.Refusals.{answered};
 ghost use Rattle.verdict.specs.Judging.{Gathered, toll_fault, with_toll};
-ghost use Rattle.judge.specs.Gathering.{after_last, tolls_of, HoldsTolls, AnswersAs};
+ghost use Rattle.judge.specs.Gathering.{toll_on, after_last, tolls_of, HoldsTolls, ChecksAs};
 
 use crate::chart::Chart;
 use plans::WORTH;
-use sheet::record::Toll;
 use tariff::pe::Pe;
 use verdict::fault::CardFault;
 
@@ -15,19 +14,19 @@ use verdict::fault::CardFault;
 pub struct GatheredTolls {
     /// by row and physical column
     pub amounts: [[u32; 64]; 64],
-    /// the one that came last
-    last: Option<Toll>,
+    /// the PE of the last one
+    last: Option<Pe>,
     /// all of them added up
     pub sum: u64,
 }
 
-/// Whether a toll comes after the last one, by row, then column; the first may be any.
-fn is_after(last: Option<Toll>, toll: Toll) -> bool
-    ensures { result ≡ after_last last toll }
+/// Whether a PE comes after the last one that has a toll, by row, then column; the first may be any.
+fn is_after(last: Option<Pe>, pe: Pe) -> bool
+    ensures { result ≡ after_last last pe }
 {
     match last {
         None => true,
-        Some(one) => one.row < toll.row || one.row == toll.row && one.column < toll.column,
+        Some(one) => one.row < pe.row || one.row == pe.row && one.column < pe.column,
     }
 }
 
@@ -44,31 +43,32 @@ impl GatheredTolls {
     }
 
     /// What is wrong with the next toll, if anything is.
-    fn check(&self, chart: &Chart, toll: Toll) -> Result<(), CardFault>
-        ensures { (g : Gathered) → self.now ≡ tolls_of g.tolls → result ≡ answered (toll_fault chart.now.host.now g toll) tt }
+    fn check(&self, chart: &Chart, pe: Pe, amount: u32) -> Result<(), CardFault>
+        ensures { let t = toll_on pe amount in
+            (g : Gathered) → self.now ≡ tolls_of g.tolls → result ≡ answered (toll_fault chart.now.host.now g t) tt }
     {
-        if !chart.is_standing(toll.row) || !chart.is_usable(Pe::at(toll.row, toll.column)) {
+        if !chart.is_standing(pe.row) || !chart.is_usable(pe) {
             return Err(CardFault::TollPlace);
         }
-        if !is_after(self.last, toll) {
+        if !is_after(self.last, pe) {
             return Err(CardFault::TollOrder);
         }
-        if toll.amount == 0 || toll.amount > WORTH {
+        if amount == 0 || amount > WORTH {
             return Err(CardFault::TollAmount);
         }
         Ok(())
     }
 
     /// Adds the next toll.
-    pub fn add(&mut self, chart: &Chart, toll: Toll) -> Result<(), CardFault>
+    pub fn add(&mut self, chart: &Chart, pe: Pe, amount: u32) -> Result<(), CardFault>
         requires { (g : Gathered) × HoldsTolls chart.now.host.now self.old g }
-        ensures { (g : Gathered) → HoldsTolls chart.now.host.now self.old g →
-            AnswersAs (λ g'. tt) (λ g'. self.new ≡ tolls_of g'.tolls) result (answered (toll_fault chart.now.host.now g toll) (with_toll g toll)) }
+        ensures { let h = chart.now.host.now in let t = toll_on pe amount in
+            (g : Gathered) → HoldsTolls h self.old g → ChecksAs (λ g'. self.new ≡ tolls_of g'.tolls) result (answered (toll_fault h g t) (with_toll g t)) }
     {
-        self.check(chart, toll)?;
-        self.amounts[usize::from(toll.row)][usize::from(toll.column)] = toll.amount;
-        self.last = Some(toll);
-        self.sum += u64::from(toll.amount);
+        self.check(chart, pe, amount)?;
+        self.amounts[usize::from(pe.row)][usize::from(pe.column)] = amount;
+        self.last = Some(pe);
+        self.sum += u64::from(amount);
         Ok(())
     }
 }

@@ -1,5 +1,5 @@
 use Rattle.std.proofs.Common.{[], None, sym, ap, ◌∙◌}
-use Rattle.plans.specs.Held.{held_row, at_each}
+use Rattle.plans.specs.Held.{at_each}
 use Rattle.plans.proofs.Holding.{at_each_same}
 use Rattle.routable.specs.Cards.{card_of}
 use Rattle.judge.proofs.Cells.{trailing}
