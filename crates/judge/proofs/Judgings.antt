@@ -14,7 +14,7 @@ use Rattle.verdict.specs.Judging.{Gathered, Accepted, blank, gathered, verdict_f
 use Rattle.judge.specs.declared.gathering.Gathering.{Gathering}
 use Rattle.judge.specs.Gathering.{Holds, AnswersAs}
 use Rattle.judge.specs.Judge.{number_and_total, plan_of, judge_answer, plan_after}
-use Rattle.judge.proofs.Answers.{Given, given, refused_so, allowed_so}
+use Rattle.judge.proofs.Outcomes.{Given, given, refused_so, allowed_so}
 use Rattle.judge.proofs.Cells.{trailing}
 use Rattle.judge.proofs.Limits.{few}
 use Rattle.judge.proofs.Settlings.{all_charged, full_columns}

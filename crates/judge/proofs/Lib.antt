@@ -3,7 +3,7 @@ mod Lasts
 mod Limits
 mod Charges
 mod Faults
-mod Answers
+mod Outcomes
 mod Puts
 mod TollTables
 mod Parts

@@ -13,7 +13,7 @@ use Rattle.judge.specs.declared.columns.GatheredColumns.{GatheredColumns}
 use Rattle.judge.specs.declared.gathering.Gathering.{Gathering}
 use Rattle.judge.specs.declared.tolls.GatheredTolls.{GatheredTolls}
 use Rattle.judge.specs.Gathering.{columns_of, tolls_of, gathering_of, Holds, HoldsColumns, HoldsTolls, AnswersAs}
-use Rattle.judge.proofs.Answers.{answers_more, given_so}
+use Rattle.judge.proofs.Outcomes.{answers_more, given_so}
 
 same-tolls : (h : Host) (g : Gathered) (j : ℕ) (g' : Gathered) → pe_checked h g j ≡ Ok g' → g'.tolls ≡ g.tolls
 same-tolls h g j g' e =

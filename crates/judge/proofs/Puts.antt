@@ -17,7 +17,7 @@ use Rattle.verdict.specs.Judging.{Gathered, with_pe, right_of_last, pe_fault, pe
 use Rattle.verdict.proofs.Placing.{last_push}
 use Rattle.judge.specs.declared.columns.GatheredColumns.{GatheredColumns}
 use Rattle.judge.specs.Gathering.{so_far, last_pe, charge_below, columns_of, HoldsColumns, AnswersAs}
-use Rattle.judge.proofs.Answers.{answers_ok, allowed_so}
+use Rattle.judge.proofs.Outcomes.{answers_ok, allowed_so}
 use Rattle.judge.proofs.Cells.{put_cell, trailing}
 use Rattle.judge.proofs.Charges.{charged_push, charged_trailing}
 use Rattle.judge.proofs.Faults.{full_is, place_is}

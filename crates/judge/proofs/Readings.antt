@@ -21,7 +21,7 @@ use Rattle.verdict.specs.Judging.{Gathered, blank, checked, at_place, onward, ga
 use Rattle.verdict.proofs.Advancing.{Linked, linked_valid, advance, finish}
 use Rattle.judge.specs.declared.gathering.Gathering.{Gathering}
 use Rattle.judge.specs.Gathering.{gathering_of, Holds, AnswersAs, next_gathered, end_at}
-use Rattle.judge.proofs.Answers.{answers_ok}
+use Rattle.judge.proofs.Outcomes.{answers_ok}
 use Rattle.judge.proofs.Nexts.{TakenIn, taken_in, stopped}
 
 at_end : (at place : ℕ) (x : Record) → Some place ≡ end_at at x → (x ≡ r.End) × (place ≡ at)

@@ -24,7 +24,7 @@ use Rattle.verdict.proofs.TollLists.{Before, before_true, before_trans, Payable,
 use Rattle.verdict.proofs.Written.{down_few}
 use Rattle.judge.specs.declared.tolls.GatheredTolls.{GatheredTolls}
 use Rattle.judge.specs.Gathering.{toll_on, after_last, tolls_of, HoldsTolls, AnswersAs}
-use Rattle.judge.proofs.Answers.{answers_ok, allowed_so}
+use Rattle.judge.proofs.Outcomes.{answers_ok, allowed_so}
 use Rattle.judge.proofs.Cells.{table_same, table_set}
 use Rattle.judge.proofs.Lasts.{follow-toll, last_toll-push}
 use Rattle.judge.proofs.Limits.{few_standing}

@@ -1,4 +1,4 @@
--- What the code holds of a sheet while it is read. Assumes nothing.
+-- What the code holds of a sheet while it is read: only the contracts of private functions cite it. Assumes nothing.
 use Rattle.std.specs.Prelude.{◌≡◌, ℕ, Bool, true, ◌&&◌, ◌||◌, ◌==◌, nat_lt, List, [], ◌∷◌, ◌++◌, length, Some, None, Ok, Err, Option, Result}
 use Rattle.host.specs.declared.Host.{Host}
 use Rattle.tariff.specs.declared.pe.Pe.{Pe}
@@ -69,18 +69,21 @@ tolls_of ts = record {
   sum = total (λ t. t.amount) ts;
 }
 
--- what is gathered is sound, and the code has its columns, its tolls
+-- columns and tolls as the code holds them
+abbrev pub gathering_of : Host → Meaning → Gathered → Gathering
+gathering_of h m g = record { columns = columns_of h m g; tolls = tolls_of g.tolls }
+
+-- what is gathered is sound, and the code holds its columns
 pub record HoldsColumns (h : Host) (m : Meaning) (s : GatheredColumns) (g : Gathered) : Type 0 where
   pub valid : Valid h g
   pub is : s ≡ columns_of h m g
 
+-- or its tolls
 pub record HoldsTolls (h : Host) (s : GatheredTolls) (g : Gathered) : Type 0 where
   pub valid : Valid h g
   pub is : s ≡ tolls_of g.tolls
 
-abbrev pub gathering_of : Host → Meaning → Gathered → Gathering
-gathering_of h m g = record { columns = columns_of h m g; tolls = tolls_of g.tolls }
-
+-- or both
 pub record Holds (h : Host) (m : Meaning) (s : Gathering) (g : Gathered) : Type 0 where
   pub valid : Valid h g
   pub is : s ≡ gathering_of h m g
@@ -90,11 +93,12 @@ abbrev pub end_at : ℕ → Record → Option ℕ
 end_at at r.End = Some at
 end_at at _ = None
 
--- what comes of the next record of a sheet, found at a place
+-- a record with what is gathered then, or its fault
 abbrev pub with_next : Record → Result Gathered JudgeFault → Result (Record × Gathered) JudgeFault
 with_next x (Err y) = Err y
 with_next x (Ok g) = Ok (x, g)
 
+-- what comes of the next record of a sheet, found at a place
 abbrev pub next_gathered : Host → Gathered → ℕ → Result (Record × State) SheetFault → Result (Record × Gathered) JudgeFault
 next_gathered h g at (Err x) = Err (Sheet x)
 next_gathered h g at (Ok p) = with_next p.0 (at_place at (checked h g p.0))

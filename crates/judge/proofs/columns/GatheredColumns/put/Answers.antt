@@ -1,6 +1,6 @@
 use Rattle.std.proofs.Common.{ℕ, length, Err, sym, ap, ◌∙◌, arith}
 use Rattle.std.proofs.lemmas.Result.{err_from_is_err_and}
-use Rattle.judge.proofs.Answers.{answers_err, refused_so}
+use Rattle.judge.proofs.Outcomes.{answers_err, refused_so}
 use Rattle.judge.proofs.Charges.{small_below}
 use Rattle.judge.proofs.Limits.{small_charge}
 use Rattle.judge.proofs.Puts.{row_in, column_in, goes_on, fills}

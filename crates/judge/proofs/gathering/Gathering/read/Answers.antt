@@ -1,6 +1,6 @@
 use Rattle.std.proofs.Common.{◌≡◌, refl}
 use Rattle.judge.specs.Gathering.{gathering_of}
-use Rattle.judge.proofs.Answers.{answers_err}
+use Rattle.judge.proofs.Outcomes.{answers_err}
 use Rattle.judge.proofs.Readings.{underway-first, holds, faulty, finished, fewer_left, underway-next}
 use Rattle.judge.proofs.gathering.Gathering.read.Goals as goal
 

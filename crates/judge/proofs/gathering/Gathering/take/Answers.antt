@@ -1,6 +1,6 @@
 use Rattle.std.proofs.Common.{ap}
 use Rattle.verdict.specs.Judging.{checked}
-use Rattle.judge.proofs.Answers.{answers_as}
+use Rattle.judge.proofs.Outcomes.{answers_as}
 use Rattle.judge.proofs.Parts.{its_columns, its_tolls, put_changes, step_changes, toll_changes}
 use Rattle.judge.proofs.gathering.Gathering.take.Goals as goal
 

@@ -1,7 +1,7 @@
 use Rattle.std.proofs.Common.{Err, sym, ap, ◌∙◌, arith}
 use Rattle.std.proofs.lemmas.Result.{err_from_is_err_and}
 use Rattle.judge.specs.declared.tolls.GatheredTolls.{GatheredTolls}
-use Rattle.judge.proofs.Answers.{answers_err, refused_so}
+use Rattle.judge.proofs.Outcomes.{answers_err, refused_so}
 use Rattle.judge.proofs.TollTables.{small_sum, added}
 use Rattle.judge.proofs.tolls.GatheredTolls.add.Goals as goal
 
