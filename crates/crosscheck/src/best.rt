@@ -12,7 +12,7 @@ pub struct Answer {
 }
 
 /// By the greatest flow at the least cost; none where no row stands.
-pub fn best_family<T: Tariff + Drop>(card: &Card<T>) -> Result<Option<Answer>, AllocError> {
+pub fn best_family<T: Tariff>(card: &Card<T>) -> Result<Option<Answer>, AllocError> {
     if card.rows.is_empty() {
         return Ok(None);
     }

@@ -28,7 +28,9 @@ impl<T: Tariff + Drop> Card<T> {
             rows,
         })
     }
+}
 
+impl<T> Card<T> {
     /// The usable PEs of a row, from left to right.
     pub fn usable_pes(&self, row: u8) -> Result<Vec<Pe>, AllocError> {
         let mut pes = Vec::new(self.alloc);

@@ -8,7 +8,7 @@ use tariff::pe::Pe;
 
 /// Whether a plan holds as many columns as told, logical columns from left to right, so that no two share a PE or cross, at the
 /// charge that is told; and 0 past them.
-pub fn holds_family<T: Tariff + Drop>(
+pub fn holds_family<T: Tariff>(
     card: &Card<T>,
     plan: &HeldPlan,
     told: Answer,
@@ -26,7 +26,7 @@ pub fn holds_family<T: Tariff + Drop>(
 }
 
 /// The first so many columns of a plan, each by its PEs going down.
-fn held_columns<T: Tariff + Drop>(
+fn held_columns<T: Tariff>(
     card: &Card<T>,
     plan: &HeldPlan,
     number: u32,
@@ -45,7 +45,7 @@ fn held_columns<T: Tariff + Drop>(
 }
 
 /// Whether there is a usable PE in each standing row, near the next one.
-fn is_column<T: Tariff + Drop>(card: &Card<T>, pes: &[Pe]) -> bool {
+fn is_column<T: Tariff>(card: &Card<T>, pes: &[Pe]) -> bool {
     pes.len() == card.rows.len()
         && pes.iter().all(|pe| card.host.is_usable(pe.row, pe.column))
         && pes
@@ -60,7 +60,7 @@ fn lies_left(left: &[Pe], right: &[Pe]) -> bool {
 }
 
 /// What the columns cost together.
-fn charges<T: Tariff + Drop>(card: &Card<T>, columns: &[Vec<Pe>]) -> u64 {
+fn charges<T: Tariff>(card: &Card<T>, columns: &[Vec<Pe>]) -> u64 {
     let mut sum = 0u64;
     for pes in columns {
         if let Some(first) = pes.first() {

@@ -30,14 +30,16 @@ impl Network {
             by: None,
             waits: false,
         };
-        let mut labels = vec![in alloc; unknown; self.at.len()]?;
+        let mut labels = vec![in alloc; unknown; self.edges_at.len()]?;
         if let Some(source) = labels.get_mut(SOURCE) {
             source.cost = Some(0);
         }
         let mut queue = VecDeque::new(alloc);
         queue.push_back(SOURCE)?;
-        // The queue runs empty: the flow so far is a cheapest one of its size, so that no cycle has a negative cost.
-        for _ in 0..u64::MAX {
+        // No node is gone on from more often than there are nodes: of the flows of its size the one so far is a cheapest, so that no
+        // cycle has a negative cost.
+        let nodes = self.edges_at.len();
+        for _ in 0..nodes.saturating_mul(nodes) {
             let Some(node) = queue.pop_front() else {
                 break;
             };
@@ -56,7 +58,7 @@ impl Network {
         let Some(cost) = labels.get_mut(node).and_then(Label::done) else {
             return Ok(());
         };
-        let Some(edges) = self.at.get(node) else {
+        let Some(edges) = self.edges_at.get(node) else {
             return Ok(());
         };
         for number in edges {

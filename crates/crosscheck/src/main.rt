@@ -28,7 +28,7 @@ fn main(rt: HostRuntime) -> Result<(), Trouble> {
     let mut words = env::args(&rt)?;
     let _program = words.next();
     let first = number(words.next(), 1)?;
-    let seeds = number(words.next(), 6000)?;
+    let seeds = number(words.next(), 4000)?;
     for kind in Kind::ALL {
         let mut totals = Totals::default();
         for seed in first..first.saturating_add(seeds) {

@@ -42,18 +42,27 @@ fn draw_pes(host: &mut Host, chance: &mut Chance) -> Result<(), Refusal> {
     Ok(())
 }
 
-/// On half of the cards, a few switches of each kind.
+/// On half of the cards, a few row switches and some column switches.
 fn break_switches(host: &mut Host, chance: &mut Chance) {
     if chance.happens(50) {
         return;
     }
-    let (last_row, last_column) = (host.size().rows() - 1, host.size().columns() - 1);
-    for _ in 0..chance.small(0, 3) {
-        let (row, column) = (chance.small(0, last_row), chance.small(0, last_column));
-        // Refused, with nothing changed, where the card has no such switch.
+    // A switch that the card does not have is refused, with nothing changed.
+    for _ in 0..chance.small(0, 2) {
+        let (row, column) = random_place(host.size(), chance);
         let _ = host.mark(Part::RowSwitch(row, column), 1);
+    }
+    for _ in 0..chance.small(0, 6) {
+        let (row, column) = random_place(host.size(), chance);
         let _ = host.mark(Part::ColumnSwitch(row, column), 1);
     }
+}
+
+fn random_place(size: Size, chance: &mut Chance) -> (u8, u8) {
+    (
+        chance.small(0, size.rows() - 1),
+        chance.small(0, size.columns() - 1),
+    )
 }
 
 /// On half of the cards, up to half of the rows.

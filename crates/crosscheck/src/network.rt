@@ -4,7 +4,7 @@ use std::alloc::{AllocError, Global};
 use tariff::Tariff;
 use tariff::pe::Pe;
 
-/// Nodes are numbered as they are made.
+/// Nodes are numbered as they are made, these two first.
 pub const SOURCE: usize = 0;
 
 pub const SINK: usize = 1;
@@ -15,6 +15,7 @@ pub struct Edge {
     pub from: usize,
     pub to: usize,
     pub cost: u32,
+    /// whether a unit goes over it
     pub used: bool,
 }
 
@@ -22,7 +23,7 @@ pub struct Edge {
 pub struct Network {
     pub edges: Vec<Edge>,
     /// the numbers of the edges at each node
-    pub at: Vec<Vec<usize>>,
+    pub edges_at: Vec<Vec<usize>>,
 }
 
 /// A usable PE of a standing row, and the node that a column leaves it from.
@@ -34,7 +35,7 @@ struct Exit {
 
 impl Network {
     /// Each usable PE of a standing row is two nodes, joined by an edge that one column can take.
-    pub fn of_card<T: Tariff + Drop>(card: &Card<T>) -> Result<Network, AllocError> {
+    pub fn of_card<T: Tariff>(card: &Card<T>) -> Result<Network, AllocError> {
         let mut network = Network::new(card.alloc)?;
         let mut above = None;
         for row in &card.rows {
@@ -52,7 +53,7 @@ impl Network {
     fn new(alloc: Global) -> Result<Network, AllocError> {
         let mut network = Network {
             edges: Vec::new(alloc),
-            at: Vec::new(alloc),
+            edges_at: Vec::new(alloc),
         };
         network.add_node(alloc)?;
         network.add_node(alloc)?;
@@ -60,8 +61,8 @@ impl Network {
     }
 
     fn add_node(&mut self, alloc: Global) -> Result<usize, AllocError> {
-        let number = self.at.len();
-        self.at.push(Vec::new(alloc))?;
+        let number = self.edges_at.len();
+        self.edges_at.push(Vec::new(alloc))?;
         Ok(number)
     }
 
@@ -74,7 +75,7 @@ impl Network {
             used: false,
         })?;
         for end in [from, to] {
-            if let Some(edges) = self.at.get_mut(end) {
+            if let Some(edges) = self.edges_at.get_mut(end) {
                 edges.push(number)?;
             }
         }
@@ -82,7 +83,7 @@ impl Network {
     }
 
     /// Adds a row below the exits of the row above it, or below the source.
-    fn add_row<T: Tariff + Drop>(
+    fn add_row<T: Tariff>(
         &mut self,
         card: &Card<T>,
         row: u8,
@@ -103,7 +104,7 @@ impl Network {
     }
 
     /// Adds the links to a PE.
-    fn add_links<T: Tariff + Drop>(
+    fn add_links<T: Tariff>(
         &mut self,
         card: &Card<T>,
         above: &[Exit],

@@ -8,10 +8,7 @@ use tariff::Tariff;
 use tariff::column::column_charge;
 
 /// Whether greedy finds a family of as many columns as the best, at no less charge.
-pub fn greedy_agrees<T: Tariff + Drop>(
-    card: &Card<T>,
-    best: Option<Answer>,
-) -> Result<bool, AllocError> {
+pub fn greedy_agrees<T: Tariff>(card: &Card<T>, best: Option<Answer>) -> Result<bool, AllocError> {
     let mut plan = HeldPlan::empty();
     match (find_greedily(card, &mut plan)?, best) {
         (None, None) => Ok(true),
@@ -25,7 +22,7 @@ pub fn greedy_agrees<T: Tariff + Drop>(
 }
 
 /// Holds the columns that greedy finds as a plan without tolls, and tells their number and charge; nothing where no row stands.
-fn find_greedily<T: Tariff + Drop>(
+fn find_greedily<T: Tariff>(
     card: &Card<T>,
     plan: &mut HeldPlan,
 ) -> Result<Option<Answer>, AllocError> {

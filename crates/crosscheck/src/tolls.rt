@@ -10,7 +10,7 @@ use tariff::pe::Pe;
 pub const WORTH: u32 = 5_000_000;
 
 /// Whether tolls lie where they may, no column is priced below the worth, and they add up for a family as told.
-pub fn support<T: Tariff + Drop>(
+pub fn support<T: Tariff>(
     card: &Card<T>,
     plan: &HeldPlan,
     told: Answer,
@@ -26,7 +26,7 @@ pub fn support<T: Tariff + Drop>(
 }
 
 /// Whether tolls lie on usable PEs of standing rows alone, and none is above the worth.
-fn are_placed<T: Tariff + Drop>(card: &Card<T>, plan: &HeldPlan) -> bool {
+fn are_placed<T: Tariff>(card: &Card<T>, plan: &HeldPlan) -> bool {
     (0..64).all(|row| {
         (0..64).all(|column| {
             let toll = toll(plan, Pe::at(row, column));
@@ -61,10 +61,7 @@ struct Priced {
 }
 
 /// The least price of a logical column, if there is one; the rows are priced from the last one up.
-fn least_price<T: Tariff + Drop>(
-    card: &Card<T>,
-    plan: &HeldPlan,
-) -> Result<Option<u64>, AllocError> {
+fn least_price<T: Tariff>(card: &Card<T>, plan: &HeldPlan) -> Result<Option<u64>, AllocError> {
     let mut below = None;
     for row in card.rows.iter().rev() {
         below = Some(priced_row(card, plan, *row, below)?);
@@ -80,7 +77,7 @@ fn least_price<T: Tariff + Drop>(
 }
 
 /// Prices the PEs of a row from which the last row can be come to.
-fn priced_row<T: Tariff + Drop>(
+fn priced_row<T: Tariff>(
     card: &Card<T>,
     plan: &HeldPlan,
     row: u8,
@@ -101,7 +98,7 @@ fn priced_row<T: Tariff + Drop>(
 }
 
 /// The least price of going on from a PE.
-fn cheapest_link<T: Tariff + Drop>(card: &Card<T>, upper: Pe, below: &[Priced]) -> Option<u64> {
+fn cheapest_link<T: Tariff>(card: &Card<T>, upper: Pe, below: &[Priced]) -> Option<u64> {
     let mut least = None;
     for lower in below {
         if is_near(upper, lower.pe) {
