@@ -22,18 +22,17 @@ module _ {P : Type 0} {N : Net P} {F : Flow P} {L : Labels P} (h : Fits N F L No
       flow = h.flow;
       labels = record {
         entry = λ p o f. omega (arith, entered p o f);
-        entered = λ p t f n.
-            let o = h.flow.usable p t in
-            omega (arith, h.labels.entered p t f n, s.above p o, entered p o f);
+        entered = λ p t f n. omega (arith, h.labels.entered p t f n, s.above p, entered p (h.flow.usable p t) f);
         along = λ a u k b w c reach. elim (either a u k b) [
           | inl quiet ↦ omega (arith, quiet w c reach, h.labels.along a u k b w c reach)
           | inr high ↦ omega (arith, h.labels.along a u k b w c reach)
         ];
         last = λ p o l f. omega (arith, s.bound p o l f, h.labels.last p o l f);
         low = λ p. omega (arith, h.labels.low p);
+        usable = λ p l. s.usable p (omega arith);
       };
     };
-    above = λ u o. omega arith;
+    above = λ u. omega arith;
     caused = s.caused;
     ready = λ room. let t = s.last room in record { usable = t.usable; last = t.last; unused = t.unused; reached = omega (arith, t.is) };
   }

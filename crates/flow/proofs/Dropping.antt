@@ -68,5 +68,6 @@ module _ {P : Type 0} {N : Net P} (law : Lawful N) {G H : Flow P} {L : Labels P}
         | inr n ↦ h.labels.last p o l (sym (m.used_else p n) ∙ f)
       ];
       low = h.labels.low;
+      usable = h.labels.usable;
     };
   }

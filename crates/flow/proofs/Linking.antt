@@ -109,5 +109,6 @@ module _ {P : Type 0} {N : Net P} (law : Lawful N) {G H : Flow P} {L : Labels P}
       ];
       last = λ p o l f. h.labels.last p o l (unused_before p f);
       low = h.labels.low;
+      usable = h.labels.usable;
     };
   }

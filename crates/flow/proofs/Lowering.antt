@@ -14,7 +14,7 @@ module _ {P : Type 0} {N : Net P} (law : Lawful N) {F : Flow P} {L : Labels P} (
   pub high : L.into w ≤ v
   high = elim (offer usable) [
     | Offer.by_entry r f free is ↦ omega (arith, h.labels.entry w usable f)
-    | Offer.by_place a u k c r b reach is pin ↦ omega (arith, s.above u b.to, h.labels.along a u k b w c reach)
+    | Offer.by_place a u k c r b reach is pin ↦ omega (arith, s.above u, h.labels.along a u k b w c reach)
   ]
 
   -- no label is lowered by itself
@@ -81,9 +81,9 @@ module _ {P : Type 0} {N : Net P} (law : Lawful N) {F : Flow P} {L : Labels P} (
 
     pub lowered : Seeking N F L W waits K
     lowered = record {
-      above = λ u o. elim (law.same_or_not u w) [
+      above = λ u. elim (law.same_or_not u w) [
         | inl e ↦ omega (arith, ap K.label e, ap L.into e, l.label, high)
-        | inr n ↦ omega (arith, (l.others u n).label, s.above u o)
+        | inr n ↦ omega (arith, (l.others u n).label, s.above u)
       ];
       high = λ u. omega (arith, falls u, s.high u);
       usable = λ u p. elim (law.same_or_not u w) [

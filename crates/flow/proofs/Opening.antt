@@ -54,6 +54,7 @@ module _ {P : Type 0} {N : Net P} (law : Lawful N) {G H : Flow P} {L : Labels P}
       });
       last = λ p o l f. h.labels.last p o l (unused_before p f);
       low = h.labels.low;
+      usable = h.labels.usable;
     };
   }
 
@@ -75,5 +76,6 @@ module _ {P : Type 0} {N : Net P} (law : Lawful N) {G : Flow P} {L : Labels P} {
       along = h.labels.along;
       last = h.labels.last;
       low = h.labels.low;
+      usable = h.labels.usable;
     };
   }

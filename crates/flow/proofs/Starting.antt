@@ -13,7 +13,13 @@ module _ {P : Type 0} {N : Net P} (law : Lawful N) {F : Flow P} {L : Labels P} (
 
   pub blank : Seeking N F L W waits M
   blank = record {
-    above = λ u o. elim (b.label u o) [ inl e ↦ omega (arith, h.labels.low u, b.rise) | inr i ↦ omega (arith, h.labels.entry u o i.0, i.2) ];
+    above = λ u. elim (cases_lt 0 (L.into u)) [
+      | inl p ↦ let o = h.labels.usable u p in elim (b.label u o) [
+        | inl e ↦ omega (arith, h.labels.low u, b.rise)
+        | inr i ↦ omega (arith, h.labels.entry u o i.0, i.2)
+      ]
+      | inr z ↦ omega arith
+    ];
     high = λ u. elim (cases_lt 0 (M.label u)) [
       | inl l ↦ elim (b.label u (b.usable u l)) [
         | inl e ↦ omega arith

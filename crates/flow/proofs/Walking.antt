@@ -54,7 +54,7 @@ module _ {P : Type 0} {N : Net P} (law : Lawful N) {F : Flow P} {L : Labels P} {
     | Cause.by_entry r f e ↦ absurd (unsaid a (sym r ∙ says))
     | Cause.by_place d u k c r bears reaches slack later ↦
         let up = s.fits.labels.along d u k bears w c reaches in
-        let low = s.above u bears.to in
+        let low = s.above u in
         subst (From w) (says_one d a (sym r ∙ says)) (record {
           u = u;
           k = k;

@@ -1,6 +1,6 @@
 -- Flows that are whole, and labels that fit them. A hole is a place that the flow does not come to, though it may go on from it.
 -- Assumes nothing.
-use Rattle.std.specs.Prelude.{◌≡◌, ℕ, ◌+◌, ◌≤◌, true, false}
+use Rattle.std.specs.Prelude.{◌≡◌, ℕ, ◌+◌, ◌<◌, ◌≤◌, true, false}
 use Rattle.flow.specs.Nets.{Net, Flow, Goes, Bears, Reaches}
 
 -- the label above each place, and the one at the exit, below the last places
@@ -23,13 +23,14 @@ pub record Conserved {P : Type 0} (N : Net P) (F : Flow P) (Hole : P → Type 0)
   pub comes : (q : P) → F.used q ≡ true → (N.First q → ⊥) → (Hole q → ⊥) → Goes N F (F.prev q) q
   pub idle : (q : P) → N.Usable q → F.used q ≡ false → (F.prev q ≡ q) × (F.charge q ≡ 0)
 
--- no label is above what the entry, or another label, would make it; along the flow it is just that
+-- no label is above what the entry, or another label, would make it; along the flow it is just that; what cannot be used has label 0
 pub record Labelled {P : Type 0} (N : Net P) (F : Flow P) (L : Labels P) (Hole : P → Type 0) : Type 0 where
   pub entry : (p : P) → N.Usable p → N.First p → L.into p ≤ N.entry p
   pub entered : (p : P) → F.used p ≡ true → N.First p → (Hole p → ⊥) → L.into p ≡ N.entry p
   pub along : (a u : P) (k : ℕ) → Bears N F a u k → (w : P) (c : ℕ) → Reaches N a w c → L.into w + k ≤ L.into u + c
   pub last : (p : P) → N.Usable p → N.Last p → F.used p ≡ false → L.exit ≤ L.into p
   pub low : (p : P) → L.into p ≤ L.exit
+  pub usable : (p : P) → 0 < L.into p → N.Usable p
 
 pub record Fits {P : Type 0} (N : Net P) (F : Flow P) (L : Labels P) (Hole : P → Type 0) : Type 0 where
   pub flow : Conserved N F Hole

@@ -31,9 +31,9 @@ pub record Tells {P : Type 0} (N : Net P) (F : Flow P) (L : Labels P) (M : Marks
   pub unused : F.used p ≡ false
   pub is : M.label p ≡ L.into p + M.rise
 
--- what holds while labels fall, and places wait to be scanned; W is the most that the exit may be, and what cannot be used has label 0
+-- what holds while labels fall, and places wait to be scanned; W is the most that the exit may be
 pub record Seeking {P : Type 0} (N : Net P) (F : Flow P) (L : Labels P) (W : ℕ) (waits : P → Bool) (M : Marks P) : Type 0 where
-  pub above : (u : P) → N.Usable u → L.into u ≤ M.label u
+  pub above : (u : P) → L.into u ≤ M.label u
   pub high : (u : P) → M.label u ≤ W
   pub usable : (u : P) → 0 < M.label u → N.Usable u
   pub quiet : (a u : P) (k : ℕ) → Bears N F a u k → M.label u < W → waits u ≡ false →

@@ -14,7 +14,7 @@ pub record Ready {P : Type 0} (N : Net P) (F : Flow P) (L : Labels P) (M : Marks
 -- labels that are settled, and marks that tell the reasons; there is room for another way while the exit is below W
 pub record Settled {P : Type 0} (N : Net P) (F : Flow P) (L : Labels P) (W : ℕ) (M : Marks P) : Type 0 where
   pub fits : Fits N F L NoHole
-  pub above : (u : P) → N.Usable u → L.into u ≤ M.label u
+  pub above : (u : P) → L.into u ≤ M.label u
   pub caused : (a w : P) (k : ℕ) → Bears N F a w k → M.label w < W → Cause N F M w
   pub ready : L.exit < W → Ready N F L M M.last
 

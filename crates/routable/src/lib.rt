@@ -10,6 +10,17 @@ use arrayvec::ArrayVec;
 use host::Host;
 use masks::iter::Members;
 
+/// The standing rows, going down.
+pub fn standing_rows(host: &Host) -> ArrayVec<u8, 64>
+    ensures { result.items ≡ (card_of host.now).rows }
+{
+    let mut rows = ArrayVec::new();
+    for row in Members::of(host.standing()) {
+        rows.push(row);
+    }
+    rows
+}
+
 /// The usable PEs of each standing row, going down.
 pub fn usable_rows(host: &Host) -> ArrayVec<u64, 64>
     ensures { result.items ≡ usable_rows (card_of host.now) }

@@ -10,7 +10,7 @@ use Rattle.flow.proofs.Walking as Walking
 use Rattle.plans.specs.Tolls.{worth}
 use Rattle.plans.proofs.Sums.{sum_below-same, sum_below_ones}
 use Rattle.router.specs.declared.board.TheConstants.{CELLS, ROW}
-use Rattle.router.specs.declared.search.Why.TheVariants.{Entry, Below}
+use Rattle.router.specs.declared.search.Why.TheVariants.{Entry}
 use Rattle.router.specs.declared.search.Search.{Search}
 use Rattle.router.specs.declared.board.Ways.{Ways}
 use Rattle.router.specs.declared.board.Board.{Board}
@@ -81,7 +81,6 @@ module _ {b : Board} {s : Search} {w n : ℕ} (h : Walks b s w n) where
   on f {x = x} walk = record {
     shape = h.shape;
     room = h.room;
-    labelled = h.labelled;
     before = h.before;
     stamp = h.stamp;
     clock = h.clock;
@@ -102,20 +101,20 @@ module _ {b : Board} {s : Search} {w n : ℕ} (h : Walks b s w n) where
 
   -- The walk ends.
   pub ended : get_or s.why w Entry ≡ Entry → Standing b
-  ended says = record { shape = h.shape; fits = Walking.ends law h.settled h.room h.walk (ap reason says); labelled = h.labelled; top = omega (arith, h.room) }
+  ended says = record { shape = h.shape; fits = Walking.ends law h.settled h.room h.walk (ap (reason w) says); top = omega (arith, h.room) }
 
-  module _ {a : ℕ} (says : get_or s.why w Entry ≡ Below a) where
+  module _ {a : ℕ} (says : reason w (get_or s.why w Entry) ≡ below a) where
     -- A cell a is linked to the hole.
     module _ (apart : a ≡ w → ⊥) where
       by_link : Down b.grid a w
-      by_link = (Walking.by_link law h.settled h.room h.walk a (ap reason says) apart).0
+      by_link = (Walking.by_link law h.settled h.room h.walk a says apart).0
 
       pub link_inside : (a + ROW + 1 < CELLS) × (a + ROW ≤ w + 1) × (w ≤ a + ROW + 1)
       link_inside = (omega (arith, within h.shape by_link.from), by_link.left, by_link.right)
 
       module _ (f : Ways) (m : Linked (flow_of b.ways) (flow_of f) a w (N.cost a w)) where
         pub links : {x : ℕ} → x ≡ onward b.ways a → Walks (record b { ways = f }) s x (n - 1)
-        links e = subst (λ y. Walks (record b { ways = f }) s y (n - 1)) (sym e) (on f (Walking.links law h.settled h.room h.walk a (ap reason says) apart m))
+        links e = subst (λ y. Walks (record b { ways = f }) s y (n - 1)) (sym e) (on f (Walking.links law h.settled h.room h.walk a says apart m))
 
         pub link_others : Rerouted b (record b { ways = f })
         link_others = still f a (omega (arith, within h.shape by_link.to, by_link.left)) m.used_else
@@ -123,7 +122,7 @@ module _ {b : Board} {s : Search} {w n : ℕ} (h : Walks b s w n) where
     -- The hole is dropped.
     module _ (same : a ≡ w) where
       at : M.why w ≡ below w
-      at = ap reason says ∙ ap below same
+      at = says ∙ ap below same
 
       module _ (f : Ways) (m : Dropped (flow_of b.ways) (flow_of f) w) where
         pub drops : {x : ℕ} → x ≡ get_or b.ways.next w 0 → Walks (record b { ways = f }) s x (n - 1)
@@ -147,7 +146,6 @@ module _ {b : Board} {s : Search} (h : Settled b s) (room : b.labels.exit < wort
     begins = record {
       shape = h.standing.shape;
       room = room;
-      labelled = h.standing.labelled;
       before = flow_of b.ways;
       stamp = h.stamp;
       clock = h.clock;

@@ -1,5 +1,5 @@
 -- Labels are raised, on arrays. Assumes nothing.
-use Rattle.std.proofs.Common.{◌≡◌, ℕ, ◌+◌, ◌<◌, ◌≤◌, min, List, length, get_or, sym, subst, inl, inr, arith}
+use Rattle.std.proofs.Common.{◌≡◌, ℕ, ◌+◌, ◌<◌, min, List, length, get_or, sym, subst, inl, inr, arith}
 use Rattle.std.proofs.lemmas.Bool.{cases_lt}
 use Rattle.std.proofs.lemmas.List.{get_or_past}
 use Rattle.flow.specs.Seeks.{Marks, raised}
@@ -23,14 +23,7 @@ everywhere into label old rise long label_long is k = elim (cases_lt k CELLS) [
   | inr m ↦ omega (arith, get_or_past into k 0 (omega arith), get_or_past label k 0 (omega arith))
 ]
 
--- No label on trial is below its label.
-pub above : {b : Board} {s : Search} → Begun b s → (k : ℕ) → get_or b.labels.into k 0 ≤ label_of s k
-above {b} {s} h k = elim (cases_lt 0 (get_or b.labels.into k 0)) [
-  | inl some ↦ h.seeks.seeking.above k (h.seeks.standing.labelled k some)
-  | inr none ↦ omega arith
-]
-
-module _ {b : Board} {s : Search} (h : Begun b s) (rests : (u : ℕ) → u < CELLS → RestsAt b s u) (l : Labels)
+module _ {b : Board} {s : Search} (h : Begun b s) (rests : (u : ℕ) → u < CELLS → RestsAt s u) (l : Labels)
     (into : (k : ℕ) → get_or l.into k 0 ≡ min (label_of s k) (get_or b.labels.into k 0 + s.rise)) (exit : l.exit ≡ b.labels.exit + s.rise) where
   abbrev M : Marks ℕ
   M = marks_of s h.seeks.stamp h.seeks.clock
@@ -42,16 +35,11 @@ module _ {b : Board} {s : Search} (h : Begun b s) (rests : (u : ℕ) → u < CEL
   closed = subst (λ x. SettledLabels (net_of b.grid) (flow_of b.ways) x worth M) as_arrays
       (Closing.closed h.seeks.standing.fits h.seeks.seeking
       (λ u ok first. h.entered u ok first (λ unused. first))
-      (λ u ok waits. rests u (omega (arith, within h.seeks.standing.shape ok)) waits))
+      (λ u ok waits. omega (arith, h.seeks.due u waits, rests u (omega (arith, within h.seeks.standing.shape ok)))))
 
   pub settled : Settled (record b { labels = l }) s
   settled = record {
-    standing = record {
-      shape = h.seeks.standing.shape;
-      fits = closed.fits;
-      labelled = λ u l. h.seeks.seeking.usable u (omega (arith, into u, l));
-      top = omega (arith, h.seeks.seeking.cap);
-    };
+    standing = record { shape = h.seeks.standing.shape; fits = closed.fits; top = omega (arith, h.seeks.seeking.cap) };
     stamp = h.seeks.stamp;
     clock = h.seeks.clock;
     settled = closed;

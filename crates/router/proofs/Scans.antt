@@ -1,16 +1,16 @@
 -- A cell is scanned, on arrays. Assumes nothing.
-use Rattle.std.proofs.Common.{◌≡◌, ℕ, ◌+◌, ◌-◌, ◌*◌, ◌<◌, ◌≤◌, true, false, cond, [], length, get_or, set, sym, refl, ap, ◌∙◌, subst, inl, inr, arith, get_or-set_other, get_or-set_same}
-use Rattle.std.proofs.lemmas.Bool.{cases_eq}
+use Rattle.std.proofs.Common.{◌≡◌, ℕ, ◌+◌, ◌-◌, ◌*◌, ◌<◌, ◌≤◌, true, false, cond, ltb, [], length, get_or, set, sym, refl, ap, ◌∙◌, subst, inl, inr, arith, get_or-set_other, get_or-set_same}
+use Rattle.std.proofs.lemmas.Bool.{cases_eq, both_ways, le-ltb}
 use Rattle.flow.specs.Nets.{Net, Flow, Bears, Reaches, Lawful}
-use Rattle.flow.specs.Seeks.{Offer}
+use Rattle.flow.specs.Seeks.{Why as Reason, below, Offer}
 use Rattle.flow.proofs.Bearing as Bearing
 use Rattle.flow.proofs.Scanning as Scanning
 use Rattle.router.specs.declared.board.TheConstants.{CELLS, ROW}
-use Rattle.router.specs.declared.search.Why.TheVariants.{Below}
+use Rattle.router.specs.declared.search.TheConstants.{NEVER}
 use Rattle.router.specs.declared.search.Search.{Search}
 use Rattle.router.specs.declared.board.Board.{Board}
 use Rattle.router.specs.Boards.{Down, Usable, net_of, flow_of}
-use Rattle.router.specs.Searches.{Seeks, Begun, Falls, Lowered, label_of, waits_of, reason, work}
+use Rattle.router.specs.Searches.{Seeks, Begun, Falls, Lowered, label_of, due_of, waits_of, work}
 use Rattle.router.proofs.Sums.{sum_below-set}
 use Rattle.router.proofs.Cells.{within, lawful}
 
@@ -47,7 +47,7 @@ module _ {b : Board} {s : Search} (h : Begun b s) (u : ℕ) (waits : waits_of s 
 
   -- the label below a is not negative
   pub enough : gap ≤ label_of s u
-  enough = omega (arith, h.seeks.seeking.above u usable, Bearing.bears_low h.seeks.standing.fits.labels bears)
+  enough = omega (arith, h.seeks.seeking.above u, Bearing.bears_low h.seeks.standing.fits.labels bears)
 
   abbrev base : ℕ
   base = label_of s u - gap
@@ -74,7 +74,7 @@ module _ {b : Board} {s : Search} (h : Begun b s) (u : ℕ) (waits : waits_of s 
     }
 
     -- a itself is lowered, where it is used
-    pub offer_itself : Usable b.grid a → Offer N F (label_of z) a base (reason (Below a))
+    pub offer_itself : Usable b.grid a → Offer N F (label_of z) a base (below a)
     offer_itself ok = Offer.by_place a u gap 0 refl bears (inr (refl, refl)) (omega (arith, k.same, enough))
         (λ first. omega (arith, h.entered a ok first (λ unused. first), k.falls.labels a))
 
@@ -88,12 +88,12 @@ module _ {b : Board} {s : Search} (h : Begun b s) (u : ℕ) (waits : waits_of s 
           let place : w + 1 - (a + ROW) ≡ e = omega arith in
           inl (record { from = bears.from; to = ok; left = omega arith; right = omega arith }, ap link (sym place))
 
-      pub offer_below : Usable b.grid w → Offer N F (label_of z) w (base + link e) (reason (Below a))
-      offer_below ok = Offer.by_place a u gap (link e) refl bears (reaches ok) (omega (arith, k.same, enough))
+      pub offer_below : {y : Reason ℕ} → y ≡ below a → Usable b.grid w → Offer N F (label_of z) w (base + link e) y
+      offer_below says ok = Offer.by_place a u gap (link e) says bears (reaches ok) (omega (arith, k.same, enough))
           (λ first. absurd (omega (arith, within h.seeks.standing.shape bears.from)))
 
-      pub below : {y : Search} → Lowered z y w (base + link e) → Kept y
-      below l = more (link e) l (λ i. not_itself w (link e) (reaches (subst (Usable b.grid) i usable)) i)
+      pub kept_below : {y : Search} → Lowered z y w (base + link e) → Kept y
+      kept_below l = more (link e) l (λ i. not_itself w (link e) (reaches (subst (Usable b.grid) i usable)) i)
 
   -- all that the label below a bounds is lowered
   pub record Passed (z : Search) : Type 0 where
@@ -118,11 +118,11 @@ module _ {b : Board} {s : Search} (h : Begun b s) (u : ℕ) (waits : waits_of s 
 
     module _ {s2 : Search} (l0 : Lowered s1 s2 (a + ROW - 1) (base + link 0)) where
       pub kept2 : Kept s2
-      kept2 = below kept1 0 (omega arith) (omega arith) l0
+      kept2 = kept_below kept1 0 (omega arith) (omega arith) l0
 
       module _ {s3 : Search} (l1 : Lowered s2 s3 (a + ROW) (base + link 1)) where
         pub kept3 : Kept s3
-        kept3 = below kept2 1 (omega arith) (omega arith) l1
+        kept3 = kept_below kept2 1 (omega arith) (omega arith) l1
 
         module _ {z : Search} (l2 : Lowered s3 z (a + ROW + 1) (base + link 2)) where
           all_low : (w e : ℕ) → w + 1 ≡ a + ROW + e → e < 3 → label_of z w ≤ base + link e
@@ -143,22 +143,28 @@ module _ {b : Board} {s : Search} (h : Begun b s) (u : ℕ) (waits : waits_of s 
 
           pub passed_on : Seeks b z → Passed z
           passed_on seeks = record {
-            kept = below kept3 2 (omega arith) (omega arith) l2;
+            kept = kept_below kept3 2 (omega arith) (omega arith) l2;
             seeks = seeks;
             itself = omega (arith, l.low, l0.falls.labels a, l1.falls.labels a, l2.falls.labels a);
             below = λ w d. all_low w (w + 1 - (a + ROW)) (omega (arith, d.left)) (omega (arith, d.right));
           }
 
   -- the cell is scanned
-  module _ {z : Search} (p : Passed z) (long : length z.waits ≡ CELLS) where
+  module _ {z : Search} (p : Passed z) (long : length z.due ≡ CELLS) where
     abbrev done : Search
-    done = record z { waits = set z.waits u false }
+    done = record z { due = set z.due u NEVER }
+
+    never : due_of done u ≡ NEVER
+    never = get_or-set_same z.due u NEVER NEVER (omega (arith, inside))
 
     off : waits_of done u ≡ false
-    off = get_or-set_same z.waits u false false (omega (arith, inside))
+    off = le-ltb (due_of done u) NEVER (omega (arith, never))
+
+    due_else : (x : ℕ) → (x ≡ u → ⊥) → due_of done x ≡ due_of z x
+    due_else x n = get_or-set_other z.due u x NEVER NEVER n
 
     others : (x : ℕ) → (x ≡ u → ⊥) → waits_of done x ≡ waits_of z x
-    others x n = get_or-set_other z.waits u x false false n
+    others x n = ap (λ d. ltb d NEVER) (due_else x n)
 
     pub less : work done < work s
     less =
@@ -183,6 +189,10 @@ module _ {b : Board} {s : Search} (h : Begun b s) (u : ℕ) (waits : waits_of s 
         seeking = Scanning.scanned law p.seeks.seeking u off others (λ d g bear w c reach.
             let one = Bearing.bears_only law h.seeks.standing.fits.flow bear in
             omega (arith, one.1, heard w c (subst (λ x. Reaches N x w c) one.0 reach)));
+        due = λ x t. elim (cases_eq x u) [
+          | inl e ↦ absurd (both_ways (waits_of done u) off (ap (waits_of done) (sym e) ∙ t))
+          | inr n ↦ omega (arith, due_else x n, p.seeks.due x (sym (others x n) ∙ t))
+        ];
       };
       entered = λ x ok first used. omega (arith, p.kept.falls.labels x, h.entered x ok first used);
     }

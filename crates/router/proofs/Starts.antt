@@ -27,8 +27,8 @@ module _ (b : Board) (h : Shape b.grid) (unused : (u : ℕ) → get_or b.ways.us
         along = λ a u k bears w c reach. elim bears.how [ inl i ↦ omega (arith, i.2, into w) | inr g ↦ absurd (never a g.0.used) ];
         last = λ p o l f. omega (arith, exit);
         low = λ p. omega (arith, into p);
+        usable = λ p l. absurd (omega (arith, into p));
       };
     };
-    labelled = λ u l. absurd (omega (arith, into u, l));
     top = omega (arith, exit);
   }

@@ -10,7 +10,7 @@ use Rattle.router.specs.declared.board.Labels.{Labels}
 use Rattle.router.specs.declared.board.Board.{Board}
 
 abbrev pub Usable : Grid → ℕ → Type 0
-Usable g u = slice_index_or g.usable u false ≡ true
+Usable g u = 0 < slice_index g.tops u
 
 abbrev pub Used : Ways → ℕ → Type 0
 Used w u = slice_index_or w.used u false ≡ true
@@ -49,6 +49,7 @@ pub record Shape (g : Grid) : Type 0 where
   pub rows : g.last ≤ 63 * ROW
   pub inside : (u : ℕ) → Usable g u → u < g.last + ROW
   pub sides : (u : ℕ) → Usable g u → (1 ≤ u % ROW) × (u % ROW ≤ 64)
+  pub tops : (u : ℕ) → Usable g u → slice_index g.tops u ≡ worth
   pub entries : (u : ℕ) → slice_index g.entries u ≤ 1000
   pub links : (u e : ℕ) → slice_index (slice_index_or g.links u []) e ≤ 1000
 
@@ -56,7 +57,6 @@ pub record Shape (g : Grid) : Type 0 where
 pub record Standing (b : Board) : Type 0 where
   pub shape : Shape b.grid
   pub fits : Fits (net_of b.grid) (flow_of b.ways) (labels_of b.labels) NoHole
-  pub labelled : (u : ℕ) → 0 < slice_index b.labels.into u → Usable b.grid u
   pub top : b.labels.exit ≤ worth
 
 -- the cell that bears the label below a

@@ -1,12 +1,12 @@
 -- What a walk keeps. Assumes nothing.
-use Rattle.std.specs.Prelude.{◌≡◌, ℕ, ◌<◌, false, cond, Option, MatchOption, nat_lt, slice_index, slice_index_or}
+use Rattle.std.specs.Prelude.{◌≡◌, ℕ, ◌<◌, false, cond, Option, MatchOption, nat_lt, slice_index_or}
 use Rattle.flow.specs.Nets.{Flow}
 use Rattle.flow.specs.Walks.{Settled, Walk}
 use Rattle.plans.specs.Tolls.{worth, sum_below}
 use Rattle.router.specs.declared.search.Search.{Search}
 use Rattle.router.specs.declared.board.TheConstants.{CELLS}
 use Rattle.router.specs.declared.board.Board.{Board}
-use Rattle.router.specs.Boards.{Usable, net_of, flow_of, labels_of, Shape, Standing}
+use Rattle.router.specs.Boards.{net_of, flow_of, labels_of, Shape, Standing}
 use Rattle.router.specs.Searches.{marks_of}
 
 -- how many cells were lowered before w
@@ -17,7 +17,6 @@ earlier stamp w = sum_below CELLS (λ u. cond (nat_lt (stamp u) (stamp w)) 1 0)
 pub record Walks (b : Board) (s : Search) (w n : ℕ) : Type 0 where
   pub shape : Shape b.grid
   pub room : b.labels.exit < worth
-  pub labelled : (u : ℕ) → 0 < slice_index b.labels.into u → Usable b.grid u
   pub before : Flow ℕ
   pub stamp : ℕ → ℕ
   pub clock : ℕ

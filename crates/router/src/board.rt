@@ -13,7 +13,8 @@ pub const CELLS: usize = 65 * ROW;
 /// counted from 0, and the physical column j.
 #[derive(Drop)]
 pub struct Grid {
-    pub usable: [bool; CELLS],
+    /// the worth in each usable cell, and 0 elsewhere
+    pub tops: [u32; CELLS],
     /// the entry charges of the first row
     pub entries: [u16; ROW],
     /// the charges of the links from a cell to those below it: left, straight, right
@@ -47,6 +48,25 @@ pub struct Board {
 }
 
 impl Board {
+    /// A board with a grid, not cleared yet.
+    pub fn new(grid: Grid) -> Board
+        ensures { result.grid ≡ grid }
+    {
+        Board {
+            grid,
+            ways: Ways {
+                used: [false; CELLS],
+                next: [0; CELLS],
+                prev: [0; CELLS],
+                charge: [0; CELLS],
+            },
+            labels: Labels {
+                into: [0; CELLS],
+                exit: 0,
+            },
+        }
+    }
+
     /// No cell is used, and each label is 0.
     pub fn clear(&mut self)
         requires { Shape self.old.grid }

@@ -1,19 +1,19 @@
 //! In which order cells are scanned: as the queue suggests them, and then what it left.
-ghost use Rattle.std.specs.Prelude.{◌≡◌, ℕ, ◌<◌, true, false};
-ghost use Rattle.router.specs.Searches.{Begun, RestsAt, work};
+ghost use Rattle.std.specs.Prelude.{◌≡◌, ℕ, ◌<◌, ◌≤◌, true, false};
+ghost use Rattle.router.specs.Searches.{Begun, RestsAt, due_of, work};
 
 use crate::board::{Board, CELLS};
 use crate::queue::ROOM;
-use crate::search::Search;
+use crate::search::{NEVER, Search};
 
-/// Scans cells until none waits whose label on trial is less than the rise above its label.
+/// Scans cells until none is due before the rise.
 pub fn rest(search: &mut Search, board: &Board)
     requires { Begun board.now search.old }
     ensures begun { Begun board.now search.new }
-    ensures rests { (u : ℕ) → u < CELLS → RestsAt board.now search.new u }
+    ensures rests { (u : ℕ) → u < CELLS → RestsAt search.new u }
 {
     follow(search, board);
-    while search.rise > 0 && is_some_due(search, board) && pass(search, board) {}
+    while search.rise > 0 && next_due(search) < search.rise && pass(search, board) {}
 }
 
 // Scans cells as the queue suggests them. It may leave some, but seldom does.
@@ -31,17 +31,15 @@ fn follow(search: &mut Search, board: &Board)
     }
 }
 
-// Whether some cell waits whose label on trial is less than the rise above its label.
-// All cells are asked, without a branch: that is faster than to stop at the first.
-fn is_some_due(search: &Search, board: &Board) -> bool
-    requires { Begun board.now search.now }
-    ensures { result ≡ false → (u : ℕ) → u < CELLS → RestsAt board.now search.now u }
+// How soon a cell is due.
+fn next_due(search: &Search) -> u32
+    ensures { (u : ℕ) → u < CELLS → result ≤ due_of search.now u }
 {
-    let mut due = false;
+    let mut soonest = NEVER;
     for u in 0..CELLS {
-        due |= search.waits[u] & (search.label[u] < board.labels.into[u] + search.rise);
+        soonest = soonest.min(search.due[u]);
     }
-    due
+    soonest
 }
 
 // Looks at each cell once; says whether any was scanned.
@@ -49,7 +47,7 @@ fn pass(search: &mut Search, board: &Board) -> bool
     requires { Begun board.now search.old }
     ensures begun { Begun board.now search.new }
     ensures less { result ≡ true → work search.new < work search.old }
-    ensures rests { result ≡ false → (u : ℕ) → u < CELLS → RestsAt board.now search.new u }
+    ensures rests { result ≡ false → (u : ℕ) → u < CELLS → RestsAt search.new u }
 {
     let mut any = false;
     for u in 0..CELLS {

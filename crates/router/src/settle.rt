@@ -21,8 +21,8 @@ pub fn settle(board: &mut Board, search: &mut Search)
 
 // Raises the labels as far as the exit may rise, but where the label on trial is lower.
 fn raise(labels: &mut Labels, search: &Search)
-    requires above { (u : ℕ) → slice_index labels.old.into u ≤ slice_index search.now.label u }
     requires low { (u : ℕ) → slice_index labels.old.into u ≤ labels.old.exit }
+    requires above { (u : ℕ) → slice_index labels.old.into u ≤ slice_index search.now.label u }
     requires top { labels.old.exit + search.now.rise ≤ worth }
     ensures into { (u : ℕ) → slice_index labels.new.into u ≡ min (slice_index search.now.label u) (slice_index labels.old.into u + search.now.rise) }
     ensures exit { labels.new.exit ≡ labels.old.exit + search.now.rise }

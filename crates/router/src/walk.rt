@@ -6,7 +6,7 @@ ghost use Rattle.router.specs.Searches.{Settled};
 ghost use Rattle.router.specs.Walking.{Walks, Stepped, Rerouted, spare};
 
 use crate::board::{Board, CELLS, ROW};
-use crate::search::{Search, Why};
+use crate::search::Search;
 
 /// Makes one way more.
 pub fn augment(board: &mut Board, search: &Search)
@@ -41,16 +41,12 @@ fn step(board: &mut Board, search: &Search, w: usize) -> Option<usize>
     ensures steps { (n : ℕ) → Walks board.old search.now w n → Stepped board.new search.now (n - 1) result }
     ensures others { Rerouted board.old board.new }
 {
-    match search.why[w] {
-        Why::Entry => None,
-        Why::Below(a) => {
-            let a = a as usize;
-            if a == w {
-                Some(board.ways.drop(w))
-            } else {
-                let charge = board.grid.links[a][w + 1 - (a + ROW)];
-                Some(board.ways.link(a, w, charge))
-            }
-        }
+    let Some(a) = search.why[w].comes_from(w) else {
+        return None;
+    };
+    if a == w {
+        return Some(board.ways.drop(w));
     }
+    let charge = board.grid.links[a][w + 1 - (a + ROW)];
+    Some(board.ways.link(a, w, charge))
 }

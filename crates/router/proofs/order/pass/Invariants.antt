@@ -7,5 +7,5 @@ invariant-loop-u l = record {
   begun : Begun l.board l.search;
   no_more : work l.search ≤ work l.initial.search;
   less : l.any ≡ true → work l.search < work l.initial.search;
-  rests : l.any ≡ false → (k : ℕ) → k < l.u → RestsAt l.board l.search k;
+  rests : l.any ≡ false → (k : ℕ) → k < l.u → RestsAt l.search k;
 }

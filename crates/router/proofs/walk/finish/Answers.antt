@@ -1,4 +1,4 @@
-use Rattle.std.proofs.Common.{◌-◌, refl, subst, arith}
+use Rattle.std.proofs.Common.{◌-◌, subst, arith}
 use Rattle.router.specs.declared.board.TheConstants.{CELLS}
 use Rattle.router.specs.Walking.{Walks}
 use Rattle.router.proofs.Moves.{rerouted_on}
@@ -15,4 +15,3 @@ returns-in-None c = record {
   standing = c.in-None.ensures.steps (CELLS - c.loop.counter) c.loop.invariant.walks;
   others = rerouted_on c.loop.invariant.others c.in-None.ensures.others;
 }
-

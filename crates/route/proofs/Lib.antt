@@ -1,0 +1,6 @@
+pub mod Rows
+pub mod Ways
+pub mod Places
+pub mod Plans
+pub mod Grids
+pub mod Makings

@@ -1,0 +1,4 @@
+pub mod Holds
+pub mod Grids
+pub mod Told
+pub mod Routed
