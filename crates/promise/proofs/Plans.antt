@@ -27,7 +27,7 @@ use Rattle.book.specs.declared.refusal.Refusal.TheVariants.{NoRow, Judge}
 use Rattle.book.specs.Books.{counts, holding}
 use Rattle.book.specs.Calls.{rowless}
 use Rattle.book.specs.Plans.{verdict}
-use Rattle.promise.specs.Promise.{Held}
+use Rattle.promise.specs.Promise.{HoldsPlan}
 
 -- past its last column a row has no toll
 past : (toll : Tolls) (r j : ℕ) → 64 ≤ j → get_or (get_or (at_each (λ q. at_each (toll q))) r []) j 0 ≡ 0
@@ -75,7 +75,7 @@ module _ (h : Host) (m : Meaning) (toll : Tolls) (f : List (List ℕ)) (plan : P
       at : (s j : ℕ) → s < standing (card_of h) → held_tolls (held f toll) (row (card_of h) s) j ≡ toll (row (card_of h) s) j
       at s j l = same (row (card_of h) s) j (in_rows (card_of h).rows s l)
 
-pub holds : {T : Type 0} (b : Book T) (m : Meaning) (toll : Tolls) (f : List (List ℕ)) → Plan (card_of b.host) m toll f → LeftToRight f → Held m (holding b m f toll) (counts b.host m f)
+pub holds : {T : Type 0} (b : Book T) (m : Meaning) (toll : Tolls) (f : List (List ℕ)) → Plan (card_of b.host) m toll f → LeftToRight f → HoldsPlan m (holding b m f toll) (counts b.host m f)
 holds b m toll f plan ordered =
     let columns = sym (Holding.theorem (card_of b.host) toll f (within b.host) plan.family).0 in record {
       plan = subst (Plan (card_of b.host) m (held_tolls (held f toll))) columns (held_plan b.host m toll f plan);

@@ -1,13 +1,16 @@
 -- What one call does to a book. Assumes nothing.
-use Rattle.std.proofs.Common.{◌≡◌, ℕ, Bool, true, false, cond, ◌⊎◌, List, Some, None, Ok, Err, Result, is_ok, IsSomeAnd, MatchBool, sym, refl, ap, ◌∙◌, subst, inl, inr}
+use Rattle.std.proofs.Common.{◌≡◌, ℕ, Bool, true, false, cond, ◌⊎◌, List, Some, None, Ok, Err, Result, is_ok, MatchBool, sym, refl, ap, ◌∙◌, subst, inl, inr}
 use Rattle.std.specs.Option.{option_map_or}
 use Rattle.std.specs.Result.{result_map_both}
-use denote.Ref.{Bor}
+use Rattle.std.specs.Borrow.{Bor}
 use Rattle.std.proofs.lemmas.Bool.{both_ways}
+use Rattle.host.specs.declared.Host.{Host}
 use Rattle.host.specs.Changes.{Change, after, alters}
 use Rattle.tariff.specs.Meaning.{Meaning, Lawful}
 use Rattle.plans.specs.Families.{Best}
 use Rattle.plans.specs.Tolls.{Tolls, Plan}
+use Rattle.plans.specs.Held.{held}
+use Rattle.plans.specs.declared.held.HeldPlan.{HeldPlan}
 use Rattle.routable.specs.Cards.{card_of}
 use Rattle.verdict.specs.Judging.{Accepted, toll_of}
 use Rattle.verdict.specs.Theorems.{LeftToRight}
@@ -19,9 +22,13 @@ use Rattle.book.specs.Calls.{rowless}
 use Rattle.book.specs.Plans.{verdict, judge_answer, taken, Planned}
 use Rattle.promise.specs.declared.call.Call.{Call}
 use Rattle.promise.specs.declared.call.Call.TheVariants.{Mark, Picture, Choose, Trial, Greedy, Route, Judge}
-use Rattle.promise.specs.Promise.{change_of, next, altering, Makes, Answer, counted, Answers, Made, Held}
+use Rattle.promise.specs.Promise.{change_of, next, altering, Makes, Answer, counted, Answers, HoldsPlan}
 use Rattle.promise.specs.Runs.{Called}
 use Rattle.promise.proofs.Plans.{holds, sound, plan_best}
+
+-- a plan is that of the sheet that a judge accepted
+abbrev pub OfSheet : Meaning → Host → Call → HeldPlan → Type 0
+OfSheet m h c plan = (sheet : Bor (List ℕ)) → c ≡ Judge sheet → (a : Accepted) × (verdict h m sheet.now ≡ Ok a) × (plan ≡ held a.columns (toll_of a.tolls))
 
 module _ {T : Type 0} (m : Meaning) (b : Book T) (c : Call) (r : Answer) (new : Book T) where
   -- a call that makes a plan: it is held, and its number and total charge are the answer
@@ -30,8 +37,8 @@ module _ {T : Type 0} (m : Meaning) (b : Book T) (c : Call) (r : Answer) (new : 
     pub number : ℕ × ℕ
     pub counts : new.counts ≡ Some number
     pub answer : r ≡ counted (Ok number)
-    pub held : Held m new number
-    pub made : Made m b.host c new
+    pub held : HoldsPlan m new number
+    pub of_sheet : OfSheet m b.host c new.plan
 
   -- any other call keeps the plan, but where it alters a state
   pub record Keeping : Type 0 where
@@ -44,6 +51,12 @@ module _ {T : Type 0} (m : Meaning) (b : Book T) (c : Call) (r : Answer) (new : 
     pub map : new.host ≡ next b.host c
     pub answers : Answers m b.host bytes c r
     pub way : Making ⊎ Keeping
+
+route_no_judge : {X : Type 0} (sheet : Bor (List ℕ)) → Route ≡ Judge sheet → X
+route_no_judge sheet e = cc
+
+same_sheet : (s t : Bor (List ℕ)) → Judge s ≡ Judge t → s ≡ t
+same_sheet s t e = cc
 
 module _ {T : Type 0} (m : Meaning) (lawful : Lawful m) (b : Book T) (bytes : ℕ) (r : Answer) (new : Book T) where
   -- a mark, picture or choice
@@ -74,8 +87,8 @@ module _ {T : Type 0} (m : Meaning) (lawful : Lawful m) (b : Book T) (bytes : �
 
   -- a call that makes a plan
   planned : (c : Call) (toll : Tolls) (f : List (List ℕ)) → change_of c ≡ None → Makes m b.host c → Plan (card_of b.host) m toll f → LeftToRight f →
-      r ≡ counted (Ok (counts b.host m f)) → Answers m b.host bytes c r → (new ≡ holding b m f toll → Made m b.host c new) → new ≡ holding b m f toll → Stepped m b c r new bytes
-  planned c toll f is makes plan ordered told answers made e = record {
+      r ≡ counted (Ok (counts b.host m f)) → Answers m b.host bytes c r → (new ≡ holding b m f toll → OfSheet m b.host c new.plan) → new ≡ holding b m f toll → Stepped m b c r new bytes
+  planned c toll f is makes plan ordered told answers of_sheet e = record {
     tariff = ap (λ (b : Book T). b.tariff) e;
     map = ap (λ (b : Book T). b.host) e ∙ ap (λ o. option_map_or (after b.host) o b.host) (sym is);
     answers = answers;
@@ -84,16 +97,10 @@ module _ {T : Type 0} (m : Meaning) (lawful : Lawful m) (b : Book T) (bytes : �
       number = counts b.host m f;
       counts = ap (λ (b : Book T). b.counts) e;
       answer = told;
-      held = subst (λ (b' : Book T). Held m b' (counts b.host m f)) (sym e) (holds b m toll f plan ordered);
-      made = made e;
+      held = subst (λ (b' : Book T). HoldsPlan m b' (counts b.host m f)) (sym e) (holds b m toll f plan ordered);
+      of_sheet = of_sheet e;
     });
   }
-
-  -- what route answers, where a row stands
-  best_answer : (bytes : ℕ) (a : Answer) (toll : Tolls) (f : List (List ℕ)) → rowless b.host ≡ false → Plan (card_of b.host) m toll f → a ≡ counted (Ok (counts b.host m f)) → Answers m b.host bytes Route a
-  best_answer bytes a toll f stands plan told =
-      subst (λ none. MatchBool none (a ≡ Err NoRow) ((g : List (List ℕ)) × Best (card_of b.host) m g × (a ≡ counted (Ok (counts b.host m g))))) (sym stands)
-      (f, plan_best b.host m lawful toll f plan, told)
 
   routed : (a : Result (ℕ × ℕ) Refusal) → r ≡ counted a → (none : Bool) → rowless b.host ≡ none → MatchBool none ((a ≡ Err NoRow) × (new ≡ b)) (Planned b m a new) → Stepped m b Route r new bytes
   routed a told true e p =
@@ -102,10 +109,10 @@ module _ {T : Type 0} (m : Meaning) (lawful : Lawful m) (b : Book T) (bytes : �
       p.1
   routed a told false e p =
       let answer = told ∙ ap counted p.counted in
-      planned Route p.toll p.family refl e p.plan p.ordered answer (best_answer bytes r p.toll p.family e p.plan answer)
-      (λ is.
-      subst (λ o. IsSomeAnd o (λ n. Answers m b.host 0 Route (counted (Ok n)))) (sym (ap (λ (b : Book T). b.counts) is))
-      (best_answer 0 (counted (Ok (counts b.host m p.family))) p.toll p.family e p.plan refl))
+      planned Route p.toll p.family refl e p.plan p.ordered answer
+      (subst (λ none. MatchBool none (r ≡ Err NoRow) ((g : List (List ℕ)) × Best (card_of b.host) m g × (r ≡ counted (Ok (counts b.host m g))))) (sym e)
+      (p.family, plan_best b.host m lawful p.toll p.family p.plan, answer))
+      (λ is sheet other. route_no_judge sheet other)
       p.held
 
   judged : (sheet : Bor (List ℕ)) (v : Result Accepted Refusal) → verdict b.host m sheet.now ≡ v → r ≡ counted (judge_answer b.host m sheet.now) →
@@ -115,7 +122,7 @@ module _ {T : Type 0} (m : Meaning) (lawful : Lawful m) (b : Book T) (bytes : �
       planned (Judge sheet) (toll_of a.tolls) a.columns refl (ap is_ok is) s.plan s.ordered
       (answers ∙ ap (λ v. counted (result_map_both (λ (a : Accepted). counts b.host m a.columns) (λ x. x) v)) is)
       answers
-      (λ now. (a, is, ap (λ (b : Book T). b.counts) now, ap (λ (b : Book T). b.plan) now))
+      (λ now other same. (a, ap (λ (s : Bor (List ℕ)). verdict b.host m s.now) (sym (same_sheet sheet other same)) ∙ is, ap (λ (b : Book T). b.plan) now))
       e
   judged sheet (Err x) is answers e = looked (Judge sheet) refl (λ ok. refused (sym (ap is_ok is) ∙ ok)) answers e
     where

@@ -1,5 +1,6 @@
 -- What a book keeps, whatever calls are made on it. Assumes nothing.
 use Rattle.std.specs.Prelude.{◌≡◌, ℕ, min, Bool, true, false, ◌↔◌, List, [], ◌∷◌, ◌++◌, length, take, drop, fold, Some, None, Ok, Err, Option, Result, IsSome, IfSome, IsSomeAnd, IsOk, MatchBool, unwrap_or, option_and_then}
+use Rattle.std.specs.Borrow.{Bor}
 use Rattle.std.specs.Option.{option_or, option_map_or}
 use Rattle.std.specs.Result.{result_map_both}
 use Rattle.host.specs.declared.Host.{Host}
@@ -10,7 +11,7 @@ use Rattle.host.specs.Laws.{Place, on_card, state, first_state, names}
 use Rattle.tariff.specs.Meaning.{Meaning}
 use Rattle.plans.specs.Families.{Family, Best}
 use Rattle.plans.specs.Tolls.{Plan}
-use Rattle.plans.specs.Held.{held}
+use Rattle.plans.specs.Held.{held as plan_of}
 use Rattle.routable.specs.Cards.{card_of}
 use Rattle.verdict.specs.Judging.{Accepted, toll_of}
 use Rattle.verdict.specs.Sheets.{sheet_of}
@@ -100,45 +101,45 @@ abbrev pub written : Host → List Call → List ℕ → List ℕ
 written h [] buffer = buffer
 written h (c ∷ calls) buffer = written (next h c) calls (buffer_after h c buffer)
 
--- the book holds the plan that the call made on the map h: of a judge the sheet's columns and tolls
-abbrev pub Made : {T : Type 0} → Meaning → Host → Call → Book T → Type 0
-Made m h Route b = IsSomeAnd b.counts (λ p. Answers m h 0 Route (counted (Ok p)))
-Made m h (Judge sheet) b = (a : Accepted) × (verdict h m sheet.now ≡ Ok a) × (b.counts ≡ Some (counts h m a.columns)) × (b.plan ≡ held a.columns (toll_of a.tolls))
-Made m h _ b = ⊥
+-- what a book holds is a plan for its map, with columns from left to right, and the plan's number and total charge
+pub record HoldsPlan {T : Type 0} (m : Meaning) (b : Book T) (number_and_total : ℕ × ℕ) : Type 0 where
+  pub plan : Plan (card_of b.host) m (tolls b) (columns b number_and_total.0)
+  pub ordered : LeftToRight (columns b number_and_total.0)
+  pub counted : number_and_total ≡ counts b.host m (columns b number_and_total.0)
 
--- what is held is a plan for the book's map, its columns from left to right, with their number and total charge
-pub record Held {T : Type 0} (m : Meaning) (b : Book T) (p : ℕ × ℕ) : Type 0 where
-  pub plan : Plan (card_of b.host) m (tolls b) (columns b p.0)
-  pub ordered : LeftToRight (columns b p.0)
-  pub counted : p ≡ counts b.host m (columns b p.0)
-
--- a book that was opened with a size and a tariff with a meaning, after calls, the last of which was answered the reply; the
--- buffer before and after them
+-- a book that was opened with a size and a tariff of this meaning, after calls, with the reply to the last of them, and with
+-- their buffer before and after
 pub record Promise {T : Type 0} (z : Size) (tariff : T) (m : Meaning) (calls : List Call) (book : Book T) (reply : Option Answer) (old new : List ℕ) : Type 0 where
-  pub tariff_stays : book.tariff ≡ tariff
+  -- no call changes the tariff
+  pub same_tariff : book.tariff ≡ tariff
   -- the map comes from the calls alone
   pub map : book.host ≡ map_after z calls
   -- the last done call that names a place decides its state
   pub last_decides : (q : Place) → on_card z q ≡ true → state book.host q ≡ unwrap_or (last_given z calls q) (first_state q)
   -- a plan is held exactly when a call made one and no later call altered a state
   pub held : IsSome book.counts ↔ LastPlan z m calls
-  -- it is the plan of the last that made one
-  pub last_made : (l : LastPlan z m calls) → Made m (map_after z l.before) l.maker book
-  pub plan : IfSome book.counts (Held m book)
-  -- no family has more columns, and none with as many has a lower total charge
+  -- it is the plan of the last call that made one: what that call answered are its number and total charge
+  pub of_last : (l : LastPlan z m calls) → IsSomeAnd book.counts (λ p. Answers m (map_after z l.before) (length old) l.maker (counted (Ok p)))
+  -- and of a judge it has the sheet's columns and tolls
+  pub of_sheet : (l : LastPlan z m calls) (sheet : Bor (List ℕ)) → l.maker ≡ Judge sheet →
+      (a : Accepted) × (verdict (map_after z l.before) m sheet.now ≡ Ok a) × (book.plan ≡ plan_of a.columns (toll_of a.tolls))
+  pub plan : IfSome book.counts (HoldsPlan m book)
+  -- no family has more columns than a plan that is held, and none with as many has a lower total charge
   pub best : IfSome book.counts (λ p. Best (card_of book.host) m (columns book p.0))
-  -- with the tolls of a plan that is held, judge accepts a family's sheet exactly when the family is best
+  -- with its tolls judge accepts a family's sheet exactly when the family is best
   pub tolls_tell : IsSome book.counts → (f : List (List ℕ)) → Family (card_of book.host) f → ByFirst f →
       IsOk (verdict book.host m (sheet_of book.host f (tolls book))) ↔ Best (card_of book.host) m f
   -- held or not, judge accepts exactly the sheets of plans
   pub judge_accepts : (bytes : List ℕ) (a : Accepted) → Bytes bytes → (verdict book.host m bytes ≡ Ok a) ↔ SheetOfPlan book.host m bytes a
-  -- and so only best families
+  -- and so only best families, whichever tolls come with them
   pub only_best : (bytes : List ℕ) (a : Accepted) → Bytes bytes → verdict book.host m bytes ≡ Ok a → Best (card_of book.host) m a.columns
-  -- a call that makes a plan leaves it held, and answers its number of columns and total charge
-  pub answered : (xs : List Call) (c : Call) → calls ≡ xs ++ c ∷ [] → Makes m (map_after z xs) c →
+  -- route is refused exactly when no row stands
+  pub route_refused : (before : List Call) → calls ≡ before ++ Route ∷ [] → (reply ≡ Some (Err NoRow)) ↔ (rowless (map_after z before) ≡ true)
+  -- a call that makes a plan leaves it held, and answers its number and total charge
+  pub plan_answered : (before : List Call) (c : Call) → calls ≡ before ++ c ∷ [] → Makes m (map_after z before) c →
       (p : ℕ × ℕ) × (book.counts ≡ Some p) × (reply ≡ Some (counted (Ok p)))
-  -- the last reply is pinned by the calls before it
-  pub replied : (xs : List Call) (c : Call) → calls ≡ xs ++ c ∷ [] → IsSomeAnd reply (Answers m (map_after z xs) (length old) c)
-  pub unasked : calls ≡ [] → reply ≡ None
-  -- and so is what is in the buffer
+  -- the last reply is pinned by the calls before it; without a call there is none
+  pub last_reply : (before : List Call) (c : Call) → calls ≡ before ++ c ∷ [] → IsSomeAnd reply (Answers m (map_after z before) (length old) c)
+  pub no_reply : calls ≡ [] → reply ≡ None
+  -- and so is what greedy wrote
   pub buffer : new ≡ written (opened z) calls old
