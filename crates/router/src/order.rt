@@ -1,5 +1,5 @@
 //! In which order cells are scanned: as the queue suggests them, and then what it left.
-ghost use Rattle.std.specs.Prelude.{◌≡◌, ℕ, ◌<◌, ◌≤◌, true, false};
+ghost use Rattle.std.specs.Prelude.{◌≡◌, ℕ, ◌<◌, ◌≤◌, true, false, Some};
 ghost use Rattle.router.specs.Searches.{Begun, RestsAt, due_of, work};
 
 use crate::board::{Board, CELLS};
@@ -13,21 +13,63 @@ pub fn rest(search: &mut Search, board: &Board)
     ensures rests { (u : ℕ) → u < CELLS → RestsAt search.new u }
 {
     follow(search, board);
-    while search.rise > 0 && next_due(search) < search.rise && pass(search, board) {}
+    // keys past the queue's last bucket come in its next round
+    while search.rise > 0
+        && next_due(search) < search.rise
+        && (resume(search, board) || pass(search, board))
+    {}
 }
 
-// Scans cells as the queue suggests them. It may leave some, but seldom does.
-fn follow(search: &mut Search, board: &Board)
+// Scans cells as the queue suggests them; says whether any was scanned. It may leave some.
+fn follow(search: &mut Search, board: &Board) -> bool
     requires { Begun board.now search.old }
-    ensures { Begun board.now search.new }
+    ensures begun { Begun board.now search.new }
+    ensures no_more { work search.new ≤ work search.old }
+    ensures less { result ≡ true → work search.new < work search.old }
 {
+    let mut any = false;
     for _ in 0..ROOM {
-        let Some(u) = search.queue.take(search.rise) else {
-            return;
-        };
-        if u < CELLS {
-            search.look(board, u);
+        match look_at_next(search, board) {
+            Some(scanned) => any |= scanned,
+            None => return any,
         }
+    }
+    any
+}
+
+// Looks at the next cell that the queue suggests, if it has one; says whether it was scanned.
+fn look_at_next(search: &mut Search, board: &Board) -> Option<bool>
+    requires { Begun board.now search.old }
+    ensures begun { Begun board.now search.new }
+    ensures no_more { work search.new ≤ work search.old }
+    ensures less { result ≡ Some true → work search.new < work search.old }
+{
+    let u = search.queue.take(search.rise)?;
+    if u >= CELLS {
+        return Some(false);
+    }
+    Some(search.look(board, u))
+}
+
+// Has the queue begin anew with all cells that are due, and follows it.
+fn resume(search: &mut Search, board: &Board) -> bool
+    requires { Begun board.now search.old }
+    ensures begun { Begun board.now search.new }
+    ensures less { result ≡ true → work search.new < work search.old }
+    ensures no_more { work search.new ≤ work search.old }
+{
+    suggest(search);
+    follow(search, board)
+}
+
+// Puts all cells that are due into the queue.
+fn suggest(search: &mut Search)
+    ensures { search.new ≡ record search.old { queue = search.new.queue } }
+{
+    let base = next_due(search);
+    search.queue.restart(base);
+    for u in 0..CELLS {
+        search.queue.push(u as u16, search.due[u], search.rise);
     }
 }
 

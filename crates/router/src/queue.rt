@@ -1,13 +1,15 @@
 //! A queue that suggests cells, about in the order of their keys. Nobody relies on what it suggests, so nothing is proved of it but
 //! that it stays within its bounds.
-const BUCKETS: usize = 4096;
+const BUCKETS: usize = 2048;
 
-/// Room for that many entries between two calls of `clear`; more are dropped.
+/// Room for that many entries after each restart; more are forgotten.
 pub const ROOM: usize = 16_384;
 
-/// A bucket for each key, the last one for all higher keys; in a bucket the newest entry comes first.
+/// A bucket for each key from a base on; in a bucket the newest entry comes first.
 #[derive(Drop)]
 pub struct Queue {
+    /// the key of the first bucket
+    base: u32,
     /// the newest entry of each bucket, 0 for none
     newest: [u16; BUCKETS],
     /// the cell of each entry
@@ -23,6 +25,7 @@ pub struct Queue {
 impl Queue {
     pub fn new() -> Queue {
         Queue {
+            base: 0,
             newest: [0; BUCKETS],
             cells: [0; ROOM],
             older: [0; ROOM],
@@ -31,19 +34,21 @@ impl Queue {
         }
     }
 
-    pub fn clear(&mut self) {
+    /// Empties it; the first bucket is that of a key.
+    pub fn restart(&mut self, base: u32) {
+        self.base = base;
         self.newest = [0; BUCKETS];
         self.next = 1;
         self.lowest = 0;
     }
 
-    /// Puts a cell in, if its key is below the limit and there is room.
+    /// Puts a cell in, if its key is below the limit, there is a bucket for it, and there is room.
     pub fn push(&mut self, cell: u16, key: u32, limit: u32) {
         let entry = self.next;
-        if key >= limit || entry >= ROOM {
+        let bucket = key.wrapping_sub(self.base) as usize;
+        if key >= limit || bucket >= BUCKETS || entry >= ROOM {
             return;
         }
-        let bucket = (key as usize).min(BUCKETS - 1);
         self.cells[entry] = cell;
         self.older[entry] = self.newest[bucket];
         self.newest[bucket] = entry as u16;
@@ -53,7 +58,8 @@ impl Queue {
 
     /// A cell of the lowest bucket that has an entry, if its key is below the limit.
     pub fn take(&mut self, limit: u32) -> Option<usize> {
-        for bucket in self.lowest..BUCKETS.min(limit as usize) {
+        let end = BUCKETS.min(limit.saturating_sub(self.base) as usize);
+        for bucket in self.lowest..end {
             let entry = self.newest[bucket] as usize % ROOM;
             self.lowest = bucket;
             if entry != 0 {

@@ -84,6 +84,7 @@ impl Search {
         requires inside { u < CELLS }
         ensures begun { Begun board.now self.new }
         ensures less { result ≡ true → work self.new < work self.old }
+        ensures no_more { work self.new ≤ work self.old }
         ensures same { result ≡ false → self.new ≡ self.old }
         ensures rests { result ≡ false → RestsAt self.new u }
     {
@@ -127,7 +128,7 @@ impl Search {
         }
         self.due = [NEVER; CELLS];
         self.rise = WORTH - board.labels.exit;
-        self.queue.clear();
+        self.queue.restart(0);
     }
 
     // Enters at the cell `u` of the first row, where it is not used.
