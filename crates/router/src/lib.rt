@@ -24,9 +24,9 @@ pub fn solve(board: &mut Board, search: &mut Search)
     ensures grid { board.new.grid ≡ board.old.grid }
 {
     board.clear();
-    settle::settle(board, search);
+    settle::settle(board, search, 0);
     while board.labels.exit < WORTH {
-        walk::augment(board, search);
-        settle::settle(board, search);
+        let start = walk::augment(board, search);
+        settle::settle(board, search, start);
     }
 }

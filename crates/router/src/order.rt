@@ -2,7 +2,7 @@
 ghost use Rattle.std.specs.Prelude.{◌≡◌, ℕ, ◌<◌, ◌≤◌, true, false, Some};
 ghost use Rattle.router.specs.Searches.{Begun, RestsAt, due_of, work};
 
-use crate::board::{Board, CELLS};
+use crate::board::{Board, CELLS, ROW};
 use crate::queue::ROOM;
 use crate::search::{NEVER, Search};
 
@@ -18,6 +18,18 @@ pub fn rest(search: &mut Search, board: &Board)
         && next_due(search) < search.rise
         && (resume(search, board) || pass(search, board))
     {}
+}
+
+/// Has the queue begin with the cells of the first row, so that it suggests first those to the left of a cell: the last one put in is the
+/// first one out.
+pub fn begin_beside(search: &mut Search, start: usize)
+    ensures { search.new ≡ record search.old { queue = search.new.queue } }
+{
+    search.queue.restart(0);
+    for k in 1..=ROW {
+        let u = (start % ROW + k) % ROW;
+        search.queue.push(u as u16, search.due[u], search.rise);
+    }
 }
 
 // Scans cells as the queue suggests them; says whether any was scanned. It may leave some.

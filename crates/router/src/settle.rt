@@ -8,13 +8,14 @@ use crate::board::{Board, CELLS, Labels};
 use crate::order;
 use crate::search::Search;
 
-/// Settles the labels.
-pub fn settle(board: &mut Board, search: &mut Search)
+/// Settles the labels; the last way that was made starts at the cell `start`.
+pub fn settle(board: &mut Board, search: &mut Search, start: usize)
     requires { Standing board.old }
     ensures settled { Settled board.new search.new }
     ensures others { board.new ≡ record board.old { labels = board.new.labels } }
 {
     search.begin(board);
+    order::begin_beside(search, start);
     order::rest(search, board);
     raise(&mut board.labels, search);
 }

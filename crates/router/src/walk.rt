@@ -8,8 +8,8 @@ ghost use Rattle.router.specs.Walking.{Walks, Stepped, Rerouted, spare};
 use crate::board::{Board, CELLS, ROW};
 use crate::search::Search;
 
-/// Makes one way more.
-pub fn augment(board: &mut Board, search: &Search)
+/// Makes one way more; answers the cell where it starts.
+pub fn augment(board: &mut Board, search: &Search) -> usize
     requires settled { Settled board.old search.now }
     requires room { board.old.labels.exit < worth }
     ensures standing { Standing board.new }
@@ -17,11 +17,12 @@ pub fn augment(board: &mut Board, search: &Search)
     ensures others { board.new ≡ record board.old { ways = board.new.ways } }
 {
     board.ways.open(search.last);
-    finish(board, search, search.last);
+    finish(board, search, search.last)
 }
 
-// Walks from the hole `w` to its end: as each reason comes before the one that led to it, there are no more moves than cells.
-fn finish(board: &mut Board, search: &Search, w: usize)
+// Walks from the hole `w` to its end, and answers where that is: as each reason comes before the one that led to it, there are no more
+// moves than cells.
+fn finish(board: &mut Board, search: &Search, w: usize) -> usize
     requires { Walks board.old search.now w CELLS }
     ensures standing { Standing board.new }
     ensures others { Rerouted board.old board.new }
@@ -30,9 +31,10 @@ fn finish(board: &mut Board, search: &Search, w: usize)
     for _ in 0..CELLS {
         match step(board, search, hole) {
             Some(next) => hole = next,
-            None => return,
+            None => return hole,
         }
     }
+    hole
 }
 
 // One move from the hole `w`: where the hole is then, or nothing at the end.
