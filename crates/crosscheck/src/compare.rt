@@ -3,7 +3,7 @@ use crate::best::{Answer, best_family};
 use crate::card::Card;
 use crate::chance::Chance;
 use crate::maps::random_map;
-use crate::ours::greedy_agrees;
+use crate::ours::{greedy_agrees, route_agrees};
 use crate::tariffs::{Kind, random_heat, random_wire};
 use crate::trouble::Trouble;
 use host::Host;
@@ -47,6 +47,6 @@ fn compare_on<T: Tariff + Drop>(
 ) -> Result<Compared, AllocError> {
     let card = Card::new(alloc, host, tariff)?;
     let best = best_family(&card)?;
-    let agreed = greedy_agrees(&card, best)?;
+    let agreed = greedy_agrees(&card, best)? && route_agrees(&card, best)?;
     Ok(Compared { best, agreed })
 }

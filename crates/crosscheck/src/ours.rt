@@ -2,10 +2,25 @@
 use crate::best::Answer;
 use crate::card::Card;
 use crate::columns::holds_family;
+use crate::tolls::support;
 use plans::held::HeldPlan;
 use std::alloc::AllocError;
 use tariff::Tariff;
 use tariff::column::column_charge;
+
+/// Whether route makes a plan of as many columns as the best, at its charge, with tolls that support it.
+pub fn route_agrees<T: Tariff>(card: &Card<T>, best: Option<Answer>) -> Result<bool, AllocError> {
+    let mut plan = HeldPlan::empty();
+    let made = route::route(&card.host, &card.tariff, &mut plan);
+    match (made, best) {
+        (None, None) => Ok(true),
+        (Some((columns, charge)), Some(best)) => {
+            let told = Answer { columns, charge };
+            Ok(told == best && holds_family(card, &plan, told)? && support(card, &plan, told)?)
+        }
+        _ => Ok(false),
+    }
+}
 
 /// Whether greedy finds a family of as many columns as the best, at no less charge.
 pub fn greedy_agrees<T: Tariff>(card: &Card<T>, best: Option<Answer>) -> Result<bool, AllocError> {
