@@ -13,10 +13,10 @@ mod card;
 mod chance;
 mod columns;
 mod compare;
-mod flow;
 mod maps;
 mod network;
 mod ours;
+mod paths;
 mod tariffs;
 #[cfg(test)]
 mod tests;
