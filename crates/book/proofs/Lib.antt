@@ -4,3 +4,4 @@ mod Trials
 mod Lefts
 mod Rowless
 pub mod Lengths
+mod Judged

@@ -1,5 +1,6 @@
--- What judge and route answer, and what they leave. Assumes nothing.
+-- What judge, route and plan out answer, and what they leave. Assumes nothing.
 use Rattle.std.specs.Prelude.{◌≡◌, ℕ, cond, List, Ok, Err, Result, MatchBool}
+use Rattle.std.specs.Option.{option_map_or}
 use Rattle.std.specs.Result.{result_map_both}
 use Rattle.host.specs.declared.Host.{Host}
 use Rattle.tariff.specs.Meaning.{Meaning}
@@ -7,9 +8,10 @@ use Rattle.plans.specs.Families.{Pairwise, LeftOf}
 use Rattle.plans.specs.Tolls.{Tolls, Plan}
 use Rattle.routable.specs.Cards.{card_of}
 use Rattle.verdict.specs.Judging.{Accepted, judged, toll_of}
+use Rattle.plan_sheet.specs.Writing.{answer as sheet_answer, buffer as sheet_buffer}
 use Rattle.book.specs.declared.Book.{Book}
 use Rattle.book.specs.declared.refusal.Refusal.{Refusal}
-use Rattle.book.specs.declared.refusal.Refusal.TheVariants.{NoRow, Judge}
+use Rattle.book.specs.declared.refusal.Refusal.TheVariants.{NoRow, Judge, NoPlan, ShortBuffer}
 use Rattle.book.specs.Books.{counts, holding}
 use Rattle.book.specs.Calls.{rowless}
 
@@ -41,3 +43,10 @@ pub record Planned {T : Type 0} (b : Book T) (m : Meaning) (answer : Result (ℕ
 -- route wants a standing row, and makes a plan where there is one
 abbrev pub Routed : {T : Type 0} → Book T → Meaning → Result (ℕ × ℕ) Refusal → Book T → Type 0
 Routed b m answer new = MatchBool (rowless b.host) ((answer ≡ Err NoRow) × (new ≡ b)) (Planned b m answer new)
+
+-- plan out wants a plan, and room for its whole sheet
+abbrev pub plan_out_answer : {T : Type 0} → Book T → ℕ → Result ℕ Refusal
+plan_out_answer b room = option_map_or (λ p. result_map_both (λ n. n) (λ x. ShortBuffer) (sheet_answer b.host b.plan p.0 room)) b.counts (Err NoPlan)
+
+abbrev pub plan_out_buffer : {T : Type 0} → Book T → List ℕ → List ℕ
+plan_out_buffer b buffer = option_map_or (λ p. sheet_buffer b.host b.plan p.0 buffer) b.counts buffer

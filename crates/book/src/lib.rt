@@ -16,7 +16,10 @@ use tariff::Tariff;
 
 mod charges;
 mod greedily;
+mod judging;
+mod plan_out;
 pub mod refusal;
+mod routing;
 #[cfg(test)]
 mod tests;
 mod trial;

@@ -5,3 +5,4 @@ mod Buffers
 mod Steps
 mod LastPlans
 mod Keeping
+mod Replays
