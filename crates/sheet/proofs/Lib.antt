@@ -1,5 +1,6 @@
 pub mod Bodies
 pub mod Places
+pub mod Extents
 mod Outside
 pub mod Nexts
 pub mod Readings

@@ -3,6 +3,7 @@
 
 ghost use Rattle.sheet.specs.Laws.{Laws};
 
+pub mod extent;
 pub mod fault;
 pub mod reader;
 pub mod record;
