@@ -5,3 +5,4 @@ mod Lefts
 mod Rowless
 pub mod Lengths
 mod Judged
+pub mod Routes

@@ -4,7 +4,7 @@ use Rattle.std.specs.Option.{option_map_or}
 use Rattle.std.specs.Result.{result_map_both}
 use Rattle.host.specs.declared.Host.{Host}
 use Rattle.tariff.specs.Meaning.{Meaning}
-use Rattle.plans.specs.Families.{Pairwise, LeftOf}
+use Rattle.plans.specs.Families.{Pairwise, LeftOf, Best}
 use Rattle.plans.specs.Tolls.{Tolls, Plan}
 use Rattle.routable.specs.Cards.{card_of}
 use Rattle.verdict.specs.Judging.{Accepted, judged, toll_of}
@@ -31,6 +31,10 @@ taken b m (Err x) = b
 abbrev pub judged_book : {T : Type 0} → Book T → Meaning → List ℕ → Book T
 judged_book b m sheet = taken b m (verdict b.host m sheet)
 
+-- route wants a standing row, and answers the number and total charge of some best family
+abbrev pub RouteAnswers : Host → Meaning → Result (ℕ × ℕ) Refusal → Type 0
+RouteAnswers h m answer = MatchBool (rowless h) (answer ≡ Err NoRow) ((family : List (List ℕ)) × Best (card_of h) m family × (answer ≡ Ok (counts h m family)))
+
 -- some plan is made, its columns from left to right, and their number and total charge are the answer
 pub record Planned {T : Type 0} (b : Book T) (m : Meaning) (answer : Result (ℕ × ℕ) Refusal) (new : Book T) : Type 0 where
   pub family : List (List ℕ)
@@ -40,7 +44,7 @@ pub record Planned {T : Type 0} (b : Book T) (m : Meaning) (answer : Result (ℕ
   pub counted : answer ≡ Ok (counts b.host m family)
   pub held : new ≡ holding b m family toll
 
--- route wants a standing row, and makes a plan where there is one
+-- route makes a plan where a row stands
 abbrev pub Routed : {T : Type 0} → Book T → Meaning → Result (ℕ × ℕ) Refusal → Book T → Type 0
 Routed b m answer new = MatchBool (rowless b.host) ((answer ≡ Err NoRow) × (new ≡ b)) (Planned b m answer new)
 

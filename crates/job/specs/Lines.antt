@@ -1,6 +1,7 @@
 -- What comes of each record of a job, and how it is told. Assumes nothing.
-use Rattle.std.specs.Prelude.{ℕ, ◌/◌, ◌%◌, true, List, [], ◌∷◌, ◌++◌, Some, None, Ok, Err, codes, decimal, Option, Result}
+use Rattle.std.specs.Prelude.{◌≡◌, ℕ, ◌/◌, ◌%◌, true, List, [], ◌∷◌, ◌++◌, Some, None, Ok, Err, codes, decimal, Option, Result}
 use Rattle.std.specs.List.{flat_map}
+use Rattle.std.specs.Option.{option_map}
 use Rattle.std.specs.Fmt.{digit_glyph}
 use Rattle.host.specs.declared.Host.{Host}
 use Rattle.host.specs.declared.refusal.Refusal.{Refusal as CardRefusal}
@@ -12,34 +13,45 @@ use Rattle.tariff.specs.Kinds.{links}
 use Rattle.book.specs.declared.Book.{Book}
 use Rattle.book.specs.declared.refusal.Refusal.{Refusal as BookRefusal}
 use Rattle.book.specs.Calls.{by_card, greedy_answer}
+use Rattle.book.specs.Plans.{judge_answer, RouteAnswers}
 use Rattle.job.specs.declared.line.Line.{Line}
 use Rattle.job.specs.declared.record.Call.{Call}
-use Rattle.job.specs.declared.record.Call.TheVariants.{Mark, Choose, Greedy}
+use Rattle.job.specs.declared.record.Call.TheVariants.{Mark, Choose, Route, Greedy, Judge}
 use Rattle.job.specs.declared.record.Entry.{Entry}
-use Rattle.job.specs.declared.record.Record.{Record}
 use Rattle.job.specs.declared.record.Record.TheVariants.{Size, Call as Asks}
 use Rattle.job.specs.declared.refusal.Refusal.{Refusal}
 use Rattle.job.specs.declared.refusal.Refusal.TheVariants.{Size as SizeRefused, Book as BookRefused, OutOfTurn}
-use Rattle.job.specs.Refusals.{number}
-use Rattle.job.specs.Records.{entries}
+use Rattle.job.specs.Refusals.{number, place}
+use Rattle.job.specs.Records.{Asked, entries}
 
 -- the map of a book; a job's books all charge by links
 abbrev pub map_of : Book Links → Host
 map_of b = b.host
 
+-- a call on a map changes it by the book's own words
+abbrev pub changed : Host → Call (List ℕ) → Host
+changed h (Mark part state) = after h (marking part state)
+changed h (Choose row state) = after h (choosing row state)
+changed h _ = h
+
+-- an accepted size opens a new card; a refused one keeps the card before it
+abbrev pub opened_or : Option Host → Result CardSize CardRefusal → Option Host
+opened_or map (Ok z) = Some (opened z)
+opened_or map (Err x) = map
+
+-- the map after what was read, where there is a card
+abbrev pub map_after : Option Host → Result Asked Refusal → Option Host
+map_after map (Err x) = map
+map_after map (Ok (Size rows columns)) = opened_or map (tested rows columns)
+map_after map (Ok (Asks c)) = option_map (λ h. changed h c) map
+
 -- what a record is answered: a number of columns and their total charge, where it asks for them, or why it is refused
 abbrev pub Reply : Type 0
 Reply = Result (Option (ℕ × ℕ)) Refusal
 
--- what a record is answered, and the map after it, where there is a card
-pub record Outcome : Type 0 where
-  pub reply : Reply
-  pub map : Option Host
-
--- an accepted size opens a new card; a refused one keeps the card before it
-abbrev pub sized : Option Host → Result CardSize CardRefusal → Outcome
-sized map (Ok z) = record { reply = Ok None; map = Some (opened z) }
-sized map (Err x) = record { reply = Err (SizeRefused x); map = map }
+abbrev pub sized : Result CardSize CardRefusal → Reply
+sized (Ok z) = Ok None
+sized (Err x) = Err (SizeRefused x)
 
 abbrev pub done : Result (Unit {0}) BookRefusal → Reply
 done (Ok nothing) = Ok None
@@ -49,35 +61,38 @@ abbrev pub counted : Result (ℕ × ℕ) BookRefusal → Reply
 counted (Ok p) = Ok (Some p)
 counted (Err x) = Err (BookRefused x)
 
--- a call on a card, by the book's own words; greedy has room for the columns of any card
-abbrev pub answered_by : Host → Call → Reply
-answered_by h (Mark p s) = done (by_card (answer h (marking p s)))
-answered_by h (Choose i s) = done (by_card (answer h (choosing i s)))
-answered_by h Greedy = counted (greedy_answer h links 4096)
+-- what a call on a map is answered; greedy has room for the columns of any card, and a route answers for some best family
+abbrev pub Answered : Host → Call (List ℕ) → Reply → Type 0
+Answered h (Mark part state) r = r ≡ done (by_card (answer h (marking part state)))
+Answered h (Choose row state) r = r ≡ done (by_card (answer h (choosing row state)))
+Answered h Route r = (a : Result (ℕ × ℕ) BookRefusal) × RouteAnswers h links a × (r ≡ counted a)
+Answered h Greedy r = r ≡ counted (greedy_answer h links 4096)
+Answered h (Judge sheet) r = r ≡ counted (judge_answer h links sheet)
 
-abbrev pub map_after : Host → Call → Host
-map_after h (Mark p s) = after h (marking p s)
-map_after h (Choose i s) = after h (choosing i s)
-map_after h Greedy = h
-
--- what comes of what was read: a refusal keeps the card, and before a card is opened no call is in turn
-abbrev pub outcome_of : Option Host → Result Record Refusal → Outcome
-outcome_of map (Err x) = record { reply = Err x; map = map }
-outcome_of map (Ok (Size rows columns)) = sized map (tested rows columns)
-outcome_of None (Ok (Asks c)) = record { reply = Err OutOfTurn; map = None }
-outcome_of (Some h) (Ok (Asks c)) = record { reply = answered_by h c; map = Some (map_after h c) }
+-- what is answered to what was read; before a card is opened no call is in turn
+abbrev pub Replied : Option Host → Result Asked Refusal → Reply → Type 0
+Replied map (Err x) r = r ≡ Err x
+Replied map (Ok (Size rows columns)) r = r ≡ sized (tested rows columns)
+Replied None (Ok (Asks c)) r = r ≡ Err OutOfTurn
+Replied (Some h) (Ok (Asks c)) r = Answered h c r
 
 abbrev pub line : ℕ → Reply → Line
 line kind reply = record { kind = kind; reply = reply }
 
 -- a line for each entry, on the map that those before it left
-unfoldable pub lines : Option Host → List Entry → List Line
-lines map [] = []
-lines map (e ∷ es) = let o = outcome_of map e.content in line e.kind o.reply ∷ lines o.map es
+pub data Lines (map : Option Host) : List (Entry (List ℕ)) → List Line → Type 0 where
+  none : Lines map [] []
+  more : (e : Entry (List ℕ)) (r : Reply) (es : List (Entry (List ℕ))) (ls : List Line) →
+      Replied map e.content r → Lines (map_after map e.content) es ls → Lines map (e ∷ es) (line e.kind r ∷ ls)
+
+-- where a fault within a sheet is
+abbrev pub at : Option ℕ → List ℕ
+at None = []
+at (Some place) = codes " at " ++ decimal place
 
 -- what is told of a refusal
-abbrev pub refused : ℕ → List ℕ
-refused n = codes "no " ++ decimal n ++ codes "\n"
+abbrev pub refused : ℕ → Option ℕ → List ℕ
+refused n place = codes "no " ++ decimal n ++ at place ++ codes "\n"
 
 -- what is told of columns: their number and total charge
 abbrev pub counts : ℕ → ℕ → List ℕ
@@ -86,16 +101,18 @@ counts columns total = decimal columns ++ codes " " ++ decimal total ++ codes "\
 abbrev pub said : Reply → List ℕ
 said (Ok None) = codes "ok\n"
 said (Ok (Some p)) = counts p.0 p.1
-said (Err x) = refused (number x)
+said (Err x) = refused (number x) (place x)
 
 -- a line: the kind in two capital hexadecimal digits, a space, and what is said
 abbrev pub text : Line → List ℕ
 text l = digit_glyph true (l.kind / 16) ∷ digit_glyph true (l.kind % 16) ∷ codes " " ++ said l.reply
 
--- what is told of the bytes of a job, from a map on
-abbrev pub told_from : Option Host → List ℕ → List ℕ
-told_from map job = flat_map text (lines map (entries job))
+-- what is told of entries, from a map on
+pub record Told (map : Option Host) (es : List (Entry (List ℕ))) (told : List ℕ) : Type 0 where
+  pub lines : List Line
+  pub of_entries : Lines map es lines
+  pub texts : told ≡ flat_map text lines
 
 -- the listing of a whole job
-abbrev pub listing : List ℕ → List ℕ
-listing job = told_from None job
+abbrev pub Listing : List ℕ → List ℕ → Type 0
+Listing job listing = Told None (entries job) listing

@@ -1,7 +1,8 @@
 //! The book that a job works on, once a size was accepted.
 ghost use Rattle.std.specs.Prelude.{◌≡◌};
 ghost use Rattle.std.specs.Option.{option_map};
-ghost use Rattle.job.specs.Lines.{outcome_of, map_of, answered_by, map_after};
+ghost use Rattle.job.specs.Records.{bare_call, bare_content};
+ghost use Rattle.job.specs.Lines.{map_of, changed, map_after, Answered, Replied};
 
 use crate::record::{Call, Record};
 use crate::refusal::Refusal;
@@ -13,9 +14,9 @@ use tariff::links::Links;
 pub type Reply = Result<Option<(u32, u32)>, Refusal>;
 
 /// Opens a book, or makes a call on the open one.
-pub fn apply(book: &mut Option<Book<Links>>, content: Result<Record, Refusal>) -> Reply
-    ensures answer { result ≡ (outcome_of (option_map map_of book.old) content).reply }
-    ensures map { option_map map_of book.new ≡ (outcome_of (option_map map_of book.old) content).map }
+pub fn apply(book: &mut Option<Book<Links>>, content: Result<Record<&[u8]>, Refusal>) -> Reply
+    ensures answer { Replied (option_map map_of book.old) (bare_content content) result }
+    ensures map { option_map map_of book.new ≡ map_after (option_map map_of book.old) (bare_content content) }
 {
     match content? {
         Record::Size(rows, columns) => {
@@ -32,18 +33,20 @@ pub fn apply(book: &mut Option<Book<Links>>, content: Result<Record, Refusal>) -
     }
 }
 
-fn call(book: &mut Book<Links>, asked: Call) -> Reply
-    ensures answer { result ≡ answered_by book.old.host asked }
-    ensures map { book.new.host ≡ map_after book.old.host asked }
+fn call(book: &mut Book<Links>, asked: Call<&[u8]>) -> Reply
+    ensures answer { Answered book.old.host (bare_call asked) result }
+    ensures map { book.new.host ≡ changed book.old.host (bare_call asked) }
 {
     match asked {
         Call::Mark(part, state) => book.mark(part, state)?,
         Call::Choose(row, state) => book.choose(row, state)?,
+        Call::Route => return Ok(Some(book.route()?)),
         Call::Greedy => {
             // room for the columns of any card
             let mut columns = [0u8; 4096];
             return Ok(Some(book.greedy(&mut columns)?));
         }
+        Call::Judge(sheet) => return Ok(Some(book.judge(sheet)?)),
     }
     Ok(None)
 }

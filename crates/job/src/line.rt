@@ -17,7 +17,7 @@ pub struct Line {
 impl Line {
     /// The text of the line, with its end.
     // No `Display`: a writer may fail, and what is then written is in no contract; here nothing may fail.
-    pub fn text(self) -> ArrayString<25>
+    pub fn text(self) -> ArrayString<33>
         ensures { result.bytes ≡ text self }
     {
         let mut text = ArrayString::new();
@@ -27,7 +27,7 @@ impl Line {
         match self.reply {
             Ok(None) => text.push_str("ok\n"),
             Ok(Some((columns, total))) => text.push_str(&counts(columns, total)),
-            Err(x) => text.push_str(&refused(u8::from(x))),
+            Err(x) => text.push_str(&refused(u8::from(x), x.place())),
         }
         text
     }
@@ -45,13 +45,17 @@ fn counts(columns: u32, total: u32) -> ArrayString<22>
     text
 }
 
-/// What is told of a refusal.
-pub fn refused(number: u8) -> ArrayString<7>
-    ensures { result.bytes ≡ refused number }
+/// What is told of a refusal, and of its place in a sheet.
+pub fn refused(number: u8, place: Option<usize>) -> ArrayString<30>
+    ensures { result.bytes ≡ refused number place }
 {
     let mut text = ArrayString::new();
     text.push_str("no ");
     text.push_str(Buffer::new().format(number));
+    if let Some(at) = place {
+        text.push_str(" at ");
+        text.push_str(Buffer::new().format(at));
+    }
     text.push('\n');
     text
 }

@@ -2,12 +2,13 @@
 ghost use Rattle.std.specs.Prelude.{◌≡◌, ◌≤◌, length};
 ghost use Rattle.std.specs.Option.{ok_or};
 ghost use Rattle.std.specs.Result.{result_map_both};
-ghost use Rattle.std.specs.Iterator.{YieldsFirst, item_count};
-ghost use Rattle.job.specs.Records.{kind_of, body_length, record_of, reading, entries};
+ghost use Rattle.std.specs.Iterator.{YieldsFirstBy, item_count};
+ghost use Rattle.job.specs.Records.{kind_of, body_length, sheet_length, record_of, reading, entries, bare, bare_entry};
 
 use crate::refusal::Refusal;
 use host::part::Part;
 use records::{NoSuchKind, RecordKind, record_at};
+use sheet::extent::extent;
 
 #[derive(Clone, Copy)]
 pub enum Kind {
@@ -16,33 +17,37 @@ pub enum Kind {
     MarkRowSwitch,
     MarkColumnSwitch,
     Choose,
+    Route,
     Greedy,
+    Judge,
 }
 
-/// What a job asks of a book.
+/// What a job asks of a book; S stands for a sheet.
 #[derive(Clone, Copy)]
-pub enum Call {
+pub enum Call<S> {
     /// a part and its state
     // a number, since the book's call refuses one above 1
     Mark(Part, u8),
     /// a row and its state, a number too
     Choose(u8, u8),
+    Route,
     Greedy,
+    Judge(S),
 }
 
 #[derive(Clone, Copy)]
-pub enum Record {
+pub enum Record<S> {
     /// rows and columns of a new card
     Size(u8, u8),
-    Call(Call),
+    Call(Call<S>),
 }
 
 /// A byte of kind, with the record that it begins or what is wrong with it.
 // The byte itself, since the line of an unknown kind tells it too.
 #[derive(Clone, Copy)]
-pub struct Entry {
+pub struct Entry<S> {
     pub kind: u8,
-    pub content: Result<Record, Refusal>,
+    pub content: Result<Record<S>, Refusal>,
 }
 
 /// The entries that are left of a job.
@@ -61,7 +66,9 @@ impl TryFrom<u8> for Kind {
             0x12 => Ok(Kind::MarkRowSwitch),
             0x13 => Ok(Kind::MarkColumnSwitch),
             0x14 => Ok(Kind::Choose),
+            0x15 => Ok(Kind::Route),
             0x16 => Ok(Kind::Greedy),
+            0x17 => Ok(Kind::Judge),
             _ => Err(NoSuchKind),
         }
     }
@@ -76,7 +83,7 @@ impl RecordKind for Kind {
 
     fn body_length(self) -> usize {
         match self {
-            Kind::Greedy => 0,
+            Kind::Route | Kind::Greedy | Kind::Judge => 0,
             Kind::Size | Kind::Choose => 2,
             Kind::MarkPe | Kind::MarkRowSwitch | Kind::MarkColumnSwitch => 3,
         }
@@ -84,11 +91,22 @@ impl RecordKind for Kind {
 }
 
 impl Kind {
-    /// The record of this kind that begins a body.
+    /// How many of the bytes behind its body are a sheet that is judged.
+    fn sheet_length(self, behind: &[u8]) -> usize
+        ensures length { result ≡ sheet_length self behind.now }
+        ensures inside { result ≤ length behind.now }
+    {
+        match self {
+            Kind::Judge => extent(behind),
+            _ => 0,
+        }
+    }
+
+    /// The record of this kind that begins a body, with its sheet.
     // By index: slice patterns would need an arm that no body takes.
-    fn read(self, body: &[u8]) -> Record
+    fn read<'a>(self, body: &[u8], sheet: &'a [u8]) -> Record<&'a [u8]>
         requires { body_length self ≤ length body.now }
-        ensures { result ≡ record_of self body.now }
+        ensures { bare result ≡ record_of self body.now sheet.now }
     {
         match self {
             Kind::Size => Record::Size(body[0], body[1]),
@@ -102,28 +120,32 @@ impl Kind {
                 body[2],
             )),
             Kind::Choose => Record::Call(Call::Choose(body[0], body[1])),
+            Kind::Route => Record::Call(Call::Route),
             Kind::Greedy => Record::Call(Call::Greedy),
+            Kind::Judge => Record::Call(Call::Judge(sheet)),
         }
     }
 }
 
 /// The record that some bytes begin with, and the bytes behind it.
-fn read(bytes: &[u8]) -> Result<(Record, &[u8]), Refusal>
-    ensures { result_map_both (λ p. (p.0, p.1.now)) (λ x. x) result ≡ reading bytes.now }
+fn read(bytes: &[u8]) -> Result<(Record<&[u8]>, &[u8]), Refusal>
+    ensures { result_map_both (λ p. (bare p.0, p.1.now)) (λ x. x) result ≡ reading bytes.now }
 {
     let (kind, body) = record_at::<Kind>(bytes, 0)?;
-    Ok((kind.read(body), &bytes[1 + body.len()..]))
+    let behind = &bytes[1 + body.len()..];
+    let (sheet, rest) = behind.split_at(kind.sheet_length(behind));
+    Ok((kind.read(body, sheet), rest))
 }
 
 impl<'a> Iterator for Entries<'a> {
-    type Item = Entry;
+    type Item = Entry<&'a [u8]>;
 
-    ghost next_gives = { YieldsFirst (λ s. entries s.0.now) };
+    ghost next_gives = { YieldsFirstBy bare_entry (λ s. entries s.0.now) };
 
     ghost remaining = { item_count (λ s. entries s.0.now) };
 
     #[tactic(auto, using(crate::proofs::Readings::entries_none, crate::proofs::Readings::entries_more))]
-    fn next(&mut self) -> Option<Entry> {
+    fn next(&mut self) -> Option<Entry<&'a [u8]>> {
         let kind = *self.0.first()?;
         let reading = read(self.0);
         // nothing is read behind a fault

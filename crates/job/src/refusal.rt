@@ -1,6 +1,6 @@
 //! Why a record of a job is refused, and why a whole listing is.
 ghost use Rattle.std.specs.Prelude.{◌≡◌};
-ghost use Rattle.job.specs.Refusals.{number, of_record, listing_number};
+ghost use Rattle.job.specs.Refusals.{number, place, of_record, listing_number};
 ghost use Rattle.job.specs.declared.refusal.Refusal.TheVariants.{Size, Book};
 
 use records::RecordFault;
@@ -31,6 +31,18 @@ impl From<Refusal> for u8 {
             Refusal::UnknownKind => 7,
             Refusal::CutShort => 8,
             Refusal::OutOfTurn => 9,
+        }
+    }
+}
+
+impl Refusal {
+    /// The place of a fault within a sheet, counted from the sheet's first byte.
+    pub fn place(self) -> Option<usize>
+        ensures { result ≡ place self }
+    {
+        match self {
+            Refusal::Book(book::refusal::Refusal::Judge(fault)) => Some(fault.place()),
+            _ => None,
         }
     }
 }
