@@ -1,3 +1,6 @@
 mod Overlays
 mod Readings
 mod Listings
+mod Told
+mod Midway
+mod Fitted

@@ -1,123 +1,79 @@
--- Listings of lists of entries, and of records as they are written. Assumes nothing.
-use Rattle.std.proofs.Common.{Bool, ◌≡◌, ℕ, ◌+◌, ◌≤◌, take, ltb, List, [], ◌∷◌, ◌++◌, map, length, drop, Some, None, Ok, Err, Option, Result, sym, refl, ap, ◌∙◌, ap₂, append_assoc, append-nil, arith}
+-- Jobs as they are written and read. Assumes nothing.
+use Rattle.std.proofs.Common.{◌≡◌, ℕ, ◌+◌, ◌≤◌, take, drop, ltb, List, [], ◌∷◌, ◌++◌, map, length, Some, None, Ok, Err, Option, Result, sym, refl, ap, ◌∙◌, ap₂, append_assoc, arith}
 use Rattle.std.proofs.lemmas.Bool.{cond-false, cond_both, le-ltb, ltb-false}
-use Rattle.std.proofs.lemmas.Grind.{flat_map-append}
-use Rattle.std.specs.List.{flat_map}
-use Rattle.host.specs.declared.Host.{Host}
-use Rattle.host.specs.declared.refusal.Refusal.{Refusal as CardRefusal}
-use Rattle.host.specs.declared.size.Size.{Size as CardSize}
-use Rattle.host.specs.Sizes.{tested}
-use Rattle.host.specs.Refusals.{answered, unless}
-use Rattle.host.specs.Changes.{marking, choosing, refusal, set_by}
+use Rattle.std.proofs.Math.Seq.{take-append_seam, drop-append_seam}
+use Rattle.std.proofs.lemmas.List.{take-append-drop}
+use Rattle.std.specs.List.{AllByRecursion}
 use Rattle.host.specs.declared.part.Part.TheVariants.{Pe, RowSwitch, ColumnSwitch}
 use Rattle.records.specs.Records.{with_body}
-use Rattle.job.specs.declared.record.Entry.{Entry}
-use Rattle.job.specs.declared.line.Line.{Line}
+use Rattle.sheet.specs.Extents.{extent}
 use Rattle.job.specs.declared.record.Kind.{Kind}
-use Rattle.job.specs.declared.record.Kind.TheVariants.{Size as SizeKind, MarkPe, MarkRowSwitch, MarkColumnSwitch, Choose as ChooseKind, Greedy as GreedyKind}
-use Rattle.job.specs.declared.record.Call.{Call}
-use Rattle.job.specs.declared.record.Call.TheVariants.{Mark, Choose, Greedy}
-use Rattle.job.specs.declared.record.Record.{Record}
+use Rattle.job.specs.declared.record.Kind.TheVariants as k
+use Rattle.job.specs.declared.record.Call.TheVariants.{Mark, Choose, Route, Greedy, Judge}
 use Rattle.job.specs.declared.record.Record.TheVariants.{Size, Call as Asks}
 use Rattle.job.specs.declared.refusal.Refusal.{Refusal}
-use Rattle.job.specs.Records.{kind_of, body_length, record_of, record_and_rest, reading, content, behind, entries_by, entries}
-use Rattle.book.specs.Calls.{by_card}
-use Rattle.job.specs.Lines.{sized, done, answered_by, map_after, outcome_of, line, lines, text, told_from, listing}
-use Rattle.job.specs.Laws.{kind, body, bytes, whole, map_left}
+use Rattle.job.specs.Records.{Asked, kind_of, body_length, sheet_length, record_of, record_and_rest, reading, content, behind, entries_by, entries}
+use Rattle.job.specs.Laws.{Entry, kind, body, bytes, Closed, whole}
 use Rattle.job.proofs.Readings.{entry, entries_more}
 
 -- a body that is long enough makes a record
 complete : (b : ℕ) (k : Kind) (bs : List ℕ) → kind_of b ≡ Some k → body_length k ≤ length bs → reading (b ∷ bs) ≡ record_and_rest (b ∷ bs) (Ok (k, take (body_length k) bs))
 complete b k bs e h = ap (record_and_rest (b ∷ bs)) (ap (with_body body_length 0 bs) e ∙ cond-false _ _ _ (le-ltb (length bs) (body_length k) h))
 
-read_back : (r : Record) (more : List ℕ) → reading (kind r ∷ body r ++ more) ≡ Ok (r, more)
-read_back (Size rows columns) more = complete 16 SizeKind (rows ∷ columns ∷ more) refl (omega arith)
-read_back (Asks (Mark (Pe i j) s)) more = complete 17 MarkPe (i ∷ j ∷ s ∷ more) refl (omega arith)
-read_back (Asks (Mark (RowSwitch i j) s)) more = complete 18 MarkRowSwitch (i ∷ j ∷ s ∷ more) refl (omega arith)
-read_back (Asks (Mark (ColumnSwitch i j) s)) more = complete 19 MarkColumnSwitch (i ∷ j ∷ s ∷ more) refl (omega arith)
-read_back (Asks (Choose i s)) more = complete 20 ChooseKind (i ∷ s ∷ more) refl (omega arith)
-read_back (Asks Greedy) more = complete 22 GreedyKind more refl (omega arith)
+-- a sheet is cut off where it ends
+cut : (n : ℕ) (sheet more : List ℕ) → n ≡ length sheet → ◌≡◌ {A = Result (Asked × List ℕ) Refusal} (Ok (Asks (Judge (take n (sheet ++ more))), drop n (sheet ++ more))) (Ok (Asks (Judge sheet), more))
+cut n sheet more e =
+    ap (λ m. Ok (Asks (Judge (take m (sheet ++ more))), drop m (sheet ++ more))) e
+    ∙ ap₂ (λ x y. Ok (Asks (Judge x), y)) (take-append_seam sheet more) (drop-append_seam sheet more)
+
+read_back : (r : Asked) (more : List ℕ) → Closed r → reading (kind r ∷ body r ++ more) ≡ Ok (r, more)
+read_back (Size rows columns) more c = complete 16 k.Size (rows ∷ columns ∷ more) refl (omega arith)
+read_back (Asks (Mark (Pe i j) s)) more c = complete 17 k.MarkPe (i ∷ j ∷ s ∷ more) refl (omega arith)
+read_back (Asks (Mark (RowSwitch i j) s)) more c = complete 18 k.MarkRowSwitch (i ∷ j ∷ s ∷ more) refl (omega arith)
+read_back (Asks (Mark (ColumnSwitch i j) s)) more c = complete 19 k.MarkColumnSwitch (i ∷ j ∷ s ∷ more) refl (omega arith)
+read_back (Asks (Choose i s)) more c = complete 20 k.Choose (i ∷ s ∷ more) refl (omega arith)
+read_back (Asks Route) more c = complete 21 k.Route more refl (omega arith)
+read_back (Asks Greedy) more c = complete 22 k.Greedy more refl (omega arith)
+read_back (Asks (Judge sheet)) more c = complete 23 k.Judge (sheet ++ more) refl (omega arith) ∙ cut (extent (sheet ++ more)) sheet more (c more)
 
 -- a record that was read is as it is written
 body_first : (b : ℕ) (k : Kind) (bs : List ℕ) → body_length k ≤ length bs →
-    let cut = take (body_length k) bs in bs ≡ body (record_of k cut) ++ drop (1 + length cut) (b ∷ bs)
-body_first b SizeKind (x ∷ y ∷ more) h = refl
-body_first b MarkPe (x ∷ y ∷ z ∷ more) h = refl
-body_first b MarkRowSwitch (x ∷ y ∷ z ∷ more) h = refl
-body_first b MarkColumnSwitch (x ∷ y ∷ z ∷ more) h = refl
-body_first b ChooseKind (x ∷ y ∷ more) h = refl
-body_first b GreedyKind bs h = refl
+    let cut = take (body_length k) bs in
+    let left = drop (1 + length cut) (b ∷ bs) in
+    let n = sheet_length k left in bs ≡ body (record_of k cut (take n left)) ++ drop n left
+body_first b k.Size (x ∷ y ∷ more) h = refl
+body_first b k.MarkPe (x ∷ y ∷ z ∷ more) h = refl
+body_first b k.MarkRowSwitch (x ∷ y ∷ z ∷ more) h = refl
+body_first b k.MarkColumnSwitch (x ∷ y ∷ z ∷ more) h = refl
+body_first b k.Choose (x ∷ y ∷ more) h = refl
+body_first b k.Route bs h = refl
+body_first b k.Greedy bs h = refl
+body_first b k.Judge bs h = sym (take-append-drop (extent bs) bs)
 body_first b _ _ h = absurd (omega arith)
 
-fault_ends : (r : Result (Record × List ℕ) Refusal) (x : Refusal) → content r ≡ Err x → behind r ≡ []
+fault_ends : (r : Result (Asked × List ℕ) Refusal) (x : Refusal) → content r ≡ Err x → behind r ≡ []
 fault_ends (Err y) x e = refl
 fault_ends (Ok p) x e = cc
 
-written : (b : ℕ) (bs : List ℕ) (o : Option Kind) (r : Record) → let read = record_and_rest (b ∷ bs) (with_body body_length 0 bs o) in content read ≡ Ok r → bs ≡ body r ++ behind read
+written : (b : ℕ) (bs : List ℕ) (o : Option Kind) (r : Asked) → let read = record_and_rest (b ∷ bs) (with_body body_length 0 bs o) in content read ≡ Ok r → bs ≡ body r ++ behind read
 written b bs None r = λ e. cc
 written b bs (Some k) r =
     let given = record_and_rest (b ∷ bs) in
     cond_both (ltb (length bs) (body_length k)) _ _ (λ x. content (given x) ≡ Ok r → bs ≡ body r ++ behind (given x)) (λ _ e. cc)
     (λ long e.
     let cut = take (body_length k) bs in
-    let same : record_of k cut ≡ r = cc in body_first b k bs (ltb-false _ _ long) ∙ ap (λ y. body y ++ drop (1 + length cut) (b ∷ bs)) same)
+    let left = drop (1 + length cut) (b ∷ bs) in
+    let n = sheet_length k left in
+    let same : record_of k cut (take n left) ≡ r = cc in body_first b k bs (ltb-false _ _ long) ∙ ap (λ y. body y ++ drop n left) same)
 
-pub reads : (rs : List Record) (more : List ℕ) → entries (bytes rs ++ more) ≡ map whole rs ++ entries more
-reads [] more = refl
-reads (r ∷ rs) more =
+pub reads : (rs : List Asked) (more : List ℕ) → AllByRecursion Closed rs → entries (bytes rs ++ more) ≡ map whole rs ++ entries more
+reads [] more c = refl
+reads (r ∷ rs) more c =
     let rest = bytes rs ++ more in
     ap entries (append_assoc (kind r ∷ body r) (bytes rs) more)
     ∙ entries_more (kind r) (body r ++ rest)
-    ∙ ap (λ x. entry (kind r) x ∷ entries (behind x)) (read_back r rest)
-    ∙ ap (λ is. whole r ∷ is) (reads rs more)
-
-pub one_each : (before : Option Host) (is : List Entry) → map (λ (l : Line). l.kind) (lines before is) ≡ map (λ (i : Entry). i.kind) is
-unfolding lines
-one_each before [] = refl
-one_each before (i ∷ is) = ap (λ ks. i.kind ∷ ks) (one_each (outcome_of before i.content).map is)
-
-pub in_order : (before : Option Host) (is js : List Entry) → lines before (is ++ js) ≡ lines before is ++ lines (map_left before is) js
-unfolding lines map_left
-in_order before [] js = refl
-in_order before (i ∷ is) js = ap (λ ls. line i.kind (outcome_of before i.content).reply ∷ ls) (in_order (outcome_of before i.content).map is js)
-
-size_kept : (before : Option Host) (t : Result CardSize CardRefusal) (x : Refusal) → (sized before t).reply ≡ Err x → (sized before t).map ≡ before
-size_kept before (Ok z) x e = cc
-size_kept before (Err y) x e = refl
-
-change_kept : (o : Option CardRefusal) (altered : Bool) (h d : Host) (x : Refusal) → done (by_card (answered o altered)) ≡ Err x → unless o h d ≡ h
-change_kept None altered h d x e = cc
-change_kept (Some y) altered h d x e = refl
-
-call_kept : (h : Host) (c : Call) (x : Refusal) → answered_by h c ≡ Err x → map_after h c ≡ h
-call_kept h (Mark p s) x e = change_kept (refusal h.size (marking p s)) _ h (set_by h (marking p s)) x e
-call_kept h (Choose i s) x e = change_kept (refusal h.size (choosing i s)) _ h (set_by h (choosing i s)) x e
-call_kept h Greedy x e = refl
-
--- what is refused keeps the map
-refused_keeps : (before : Option Host) (content : Result Record Refusal) (x : Refusal) → (outcome_of before content).reply ≡ Err x → (outcome_of before content).map ≡ before
-refused_keeps before (Err y) x e = refl
-refused_keeps before (Ok (Size rows columns)) x e = size_kept before (tested rows columns) x e
-refused_keeps None (Ok (Asks c)) x e = refl
-refused_keeps (Some h) (Ok (Asks c)) x e = ap Some (call_kept h c x e)
-
-pub refused_silent : (before : Option Host) (is js : List Entry) (i : Entry) (x : Refusal) → (outcome_of (map_left before is) i.content).reply ≡ Err x →
-    lines before (is ++ i ∷ js) ≡ lines before is ++ line i.kind (Err x) ∷ lines (map_left before is) js
-unfolding lines
-refused_silent before is js i x e =
-    let now' = map_left before is in
-    in_order before is (i ∷ js)
-    ∙ ap (λ ls. lines before is ++ ls) (ap₂ (λ reply c. line i.kind reply ∷ lines c js) e (refused_keeps now' i.content x e))
-
-pub prefix : (rs : List Record) (more : List ℕ) → listing (bytes rs ++ more) ≡ listing (bytes rs) ++ told_from (map_left None (map whole rs)) more
-unfolding entries_by
-prefix rs more =
-    let all = map whole rs in
-    let alone : entries (bytes rs) ≡ all = ap entries (sym (append-nil (bytes rs))) ∙ reads rs [] ∙ append-nil all in
-    ap (λ es. flat_map text (lines None es)) (reads rs more)
-    ∙ ap (flat_map text) (in_order None all (entries more))
-    ∙ flat_map-append text (lines None all) (lines (map_left None all) (entries more))
-    ∙ ap (λ es. flat_map text (lines None es) ++ told_from (map_left None all) more) (sym alone)
+    ∙ ap (λ x. entry (kind r) x ∷ entries (behind x)) (read_back r rest c.0)
+    ∙ ap (λ is. whole r ∷ is) (reads rs more c.1)
 
 pub fault_last : (job : List ℕ) (is js : List Entry) (i : Entry) (x : Refusal) → entries job ≡ is ++ i ∷ js → i.content ≡ Err x → js ≡ []
 unfolding entries_by
@@ -134,7 +90,7 @@ fault_last (b ∷ bs) (k ∷ is) js i x e f =
     let rest : entries (behind (reading (b ∷ bs))) ≡ is ++ i ∷ js = cc in
     fault_last (behind (reading (b ∷ bs))) is js i x rest f
 
-pub nothing_lost : (job : List ℕ) (rs : List Record) → entries job ≡ map whole rs → job ≡ bytes rs
+pub nothing_lost : (job : List ℕ) (rs : List Asked) → entries job ≡ map whole rs → job ≡ bytes rs
 unfolding entries_by
 nothing_lost [] [] e = refl
 nothing_lost [] (r ∷ rs) e = cc

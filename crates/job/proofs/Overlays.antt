@@ -1,5 +1,5 @@
 -- Text laid over a page, piece by piece. Assumes nothing.
-use Rattle.std.proofs.Common.{◌≡◌, ℕ, ◌+◌, ◌≤◌, min, List, [], ◌++◌, length, take, sym, ap, ap₂, ◌∙◌, rules, arith}
+use Rattle.std.proofs.Common.{◌≡◌, ℕ, ◌+◌, ◌≤◌, min, List, [], ◌++◌, length, take, refl, sym, ap₂, ◌∙◌, rules, arith}
 use Rattle.std.proofs.lemmas.List.{same_lists, places, length-append}
 use borrow.Rule.Slice.PartMut.{put_mid}
 use Rattle.greedy.specs.Answers.{at_front}
@@ -23,14 +23,13 @@ pub overlaid_front : (page text : List ℕ) → length text ≤ length page → 
 unfolding overlaid
 overlaid_front page text h = same_lists _ _ (search (rules, places)) (λ k d h. grind (arith, places))
 
--- a whole text is laid once what is left of it is: its next piece, and the rest, are laid in turn, and at last nothing
-module _ {first page whole left : List ℕ} {at : ℕ} (l : Laid first 0 whole (overlaid page at left) (at + length left)) where
-  pub laid_more : {after : List ℕ} {next : ℕ} (xs ys : List ℕ) → left ≡ xs ++ ys → Laid page at xs after next → Laid first 0 whole (overlaid after next ys) (next + length ys)
-  laid_more xs ys e m =
-      record {
-        over = ap₂ (λ p n. overlaid p n ys) m.over m.behind ∙ overlaid_then page at xs ys ∙ ap (overlaid page at) (sym e) ∙ l.over;
-        behind = omega (arith, l.behind, m.behind, ap length e, length-append xs ys);
-      }
+pub laid_none : (page : List ℕ) → Laid page 0 [] page 0
+laid_none page = record { over = sym (overlaid_none page 0); behind = refl }
 
-  pub laid_all : left ≡ [] → Laid first 0 whole page at
-  laid_all e = record { over = sym (overlaid_none page at) ∙ ap (overlaid page at) (sym e) ∙ l.over; behind = omega (arith, l.behind, ap length e) }
+-- a text is laid behind another
+pub laid_then : {first page after : List ℕ} {at next : ℕ} (xs ys : List ℕ) → Laid first 0 xs page at → Laid page at ys after next → Laid first 0 (xs ++ ys) after next
+laid_then {first = first} xs ys l m =
+    record {
+      over = m.over ∙ ap₂ (λ p n. overlaid p n ys) l.over l.behind ∙ overlaid_then first 0 xs ys;
+      behind = omega (arith, l.behind, m.behind, length-append xs ys);
+    }

@@ -1,29 +1,27 @@
 -- A job read entry by entry, and told line by line. Assumes nothing.
-use Rattle.std.proofs.Common.{◌≡◌, ℕ, zero, suc, ◌+◌, Some, None, Option, ◌≤◌, ltb, List, [], ◌∷◌, ◌++◌, length, take, Result, refl, ap, arith, length-drop}
+use Rattle.std.proofs.Common.{◌≡◌, ℕ, zero, suc, ◌+◌, Some, None, Option, ◌≤◌, ltb, List, [], ◌∷◌, length, take, drop, Result, refl, ap, arith, length-drop}
 use Rattle.std.proofs.lemmas.Bool.{cond_both}
-use Rattle.std.specs.List.{flat_map}
-use Rattle.host.specs.declared.Host.{Host}
 use Rattle.records.specs.Records.{with_body}
 use Rattle.records.specs.declared.RecordFault.{RecordFault}
 use Rattle.job.specs.declared.record.Entry.{Entry}
 use Rattle.job.specs.declared.record.Kind.{Kind}
-use Rattle.job.specs.declared.record.Record.{Record}
 use Rattle.job.specs.declared.refusal.Refusal.{Refusal}
-use Rattle.job.specs.Records.{kind_of, body_length, record_and_rest, reading, content, behind, entries_by, entries}
-use Rattle.job.specs.Lines.{outcome_of, line, lines, text}
+use Rattle.job.specs.Records.{Asked, kind_of, body_length, sheet_length, record_and_rest, reading, content, behind, entries_by, entries}
 
 -- what is left behind an entry is no longer than what came after its kind
 rest_short : (b : ℕ) (bs : List ℕ) (o : Option Kind) → length (behind (record_and_rest (b ∷ bs) (with_body body_length 0 bs o))) ≤ length bs
 rest_short b bs None = omega arith
 rest_short b bs (Some k) =
     cond_both (ltb (length bs) (body_length k)) _ _ (λ (r : Result (Kind × List ℕ) RecordFault). length (behind (record_and_rest (b ∷ bs) r)) ≤ length bs) (λ _. omega arith)
-    (λ _. omega (arith, length-drop (1 + length (take (body_length k) bs)) (b ∷ bs)))
+    (λ _.
+    let n = 1 + length (take (body_length k) bs) in
+    let left = drop n (b ∷ bs) in omega (arith, length-drop n (b ∷ bs), length-drop (sheet_length k left) left))
 
 behind_short : (b : ℕ) (bs : List ℕ) → length (behind (reading (b ∷ bs))) ≤ length bs
 behind_short b bs = rest_short b bs (kind_of b)
 
 -- the entry of a byte of kind, by what was read
-abbrev pub entry : ℕ → Result (Record × List ℕ) Refusal → Entry
+abbrev pub entry : ℕ → Result (Asked × List ℕ) Refusal → Entry (List ℕ)
 entry b r = record { kind = b; content = content r }
 
 -- any number of turns that is not below the number of bytes will do
@@ -59,17 +57,3 @@ fewer (suc n) (b ∷ bs) = let h = fewer n (behind (reading (b ∷ bs))) in omeg
 
 pub length_entries : (job : List ℕ) → length (entries job) ≤ length job
 length_entries job = fewer (length job) job
-
--- what is told of some entries, from a map on
-abbrev pub told_of : Option Host → List Entry → List ℕ
-told_of map es = flat_map text (lines map es)
-
-pub told_none : (map : Option Host) → told_of map [] ≡ []
-unfolding lines
-told_none map = refl
-
--- an entry at the front, by its outcome
-pub told_more : (map : Option Host) (e : Entry) (es : List Entry) →
-    told_of map (e ∷ es) ≡ text (line e.kind (outcome_of map e.content).reply) ++ told_of (outcome_of map e.content).map es
-unfolding lines
-told_more map e es = refl

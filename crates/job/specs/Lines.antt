@@ -80,9 +80,9 @@ abbrev pub line : ℕ → Reply → Line
 line kind reply = record { kind = kind; reply = reply }
 
 -- a line for each entry, on the map that those before it left
-pub data Lines (map : Option Host) : List (Entry (List ℕ)) → List Line → Type 0 where
-  none : Lines map [] []
-  more : (e : Entry (List ℕ)) (r : Reply) (es : List (Entry (List ℕ))) (ls : List Line) →
+pub data Lines : Option Host → List (Entry (List ℕ)) → List Line → Type 0 where
+  none : (map : Option Host) → Lines map [] []
+  more : (map : Option Host) (e : Entry (List ℕ)) (r : Reply) (es : List (Entry (List ℕ))) (ls : List Line) →
       Replied map e.content r → Lines (map_after map e.content) es ls → Lines map (e ∷ es) (line e.kind r ∷ ls)
 
 -- where a fault within a sheet is

@@ -44,7 +44,7 @@ pub record Prints (job page : List ℕ) (next : ℕ) (after : List ℕ) : Type 0
   pub text : List ℕ
   pub printed : Printed job text
   pub behind : next ≡ length text
-  pub page : after ≡ at_front text page
+  pub front : after ≡ at_front text page
   pub fits : next ≤ 65536
 
 -- what a caller in C gets: the length, or minus the number of the refusal

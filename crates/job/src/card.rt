@@ -15,8 +15,8 @@ pub type Reply = Result<Option<(u32, u32)>, Refusal>;
 
 /// Opens a book, or makes a call on the open one.
 pub fn apply(book: &mut Option<Book<Links>>, content: Result<Record<&[u8]>, Refusal>) -> Reply
-    ensures answer { Replied (option_map map_of book.old) (bare_content content) result }
-    ensures map { option_map map_of book.new ≡ map_after (option_map map_of book.old) (bare_content content) }
+    ensures answer { Replied (option_map map_of book.old) (bare_content content.entry) result }
+    ensures map { option_map map_of book.new ≡ map_after (option_map map_of book.old) (bare_content content.entry) }
 {
     match content? {
         Record::Size(rows, columns) => {
@@ -34,8 +34,8 @@ pub fn apply(book: &mut Option<Book<Links>>, content: Result<Record<&[u8]>, Refu
 }
 
 fn call(book: &mut Book<Links>, asked: Call<&[u8]>) -> Reply
-    ensures answer { Answered book.old.host (bare_call asked) result }
-    ensures map { book.new.host ≡ changed book.old.host (bare_call asked) }
+    ensures answer { Answered book.old.host (bare_call asked.entry) result }
+    ensures map { book.new.host ≡ changed book.old.host (bare_call asked.entry) }
 {
     match asked {
         Call::Mark(part, state) => book.mark(part, state)?,

@@ -1,7 +1,7 @@
 //! The lines of a listing, as text.
 ghost use Rattle.std.specs.Prelude.{◌≡◌, ◌<◌, true};
 ghost use Rattle.std.specs.Fmt.{digit_glyph};
-ghost use Rattle.job.specs.Lines.{counts, refused, text};
+ghost use Rattle.job.specs.Lines.{at, counts, refused, text};
 
 use crate::card::Reply;
 use arrayvec::ArrayString;
@@ -17,7 +17,7 @@ pub struct Line {
 impl Line {
     /// The text of the line, with its end.
     // No `Display`: a writer may fail, and what is then written is in no contract; here nothing may fail.
-    pub fn text(self) -> ArrayString<33>
+    pub fn text(self) -> ArrayString<34>
         ensures { result.bytes ≡ text self }
     {
         let mut text = ArrayString::new();
@@ -46,17 +46,26 @@ fn counts(columns: u32, total: u32) -> ArrayString<22>
 }
 
 /// What is told of a refusal, and of its place in a sheet.
-pub fn refused(number: u8, place: Option<usize>) -> ArrayString<30>
+pub fn refused(number: u8, place: Option<usize>) -> ArrayString<31>
     ensures { result.bytes ≡ refused number place }
 {
     let mut text = ArrayString::new();
     text.push_str("no ");
     text.push_str(Buffer::new().format(number));
-    if let Some(at) = place {
-        text.push_str(" at ");
-        text.push_str(Buffer::new().format(at));
-    }
+    text.push_str(&at(place));
     text.push('\n');
+    text
+}
+
+/// What is told of a place in a sheet.
+fn at(place: Option<usize>) -> ArrayString<24>
+    ensures { result.bytes ≡ at place }
+{
+    let mut text = ArrayString::new();
+    if let Some(place) = place {
+        text.push_str(" at ");
+        text.push_str(Buffer::new().format(place));
+    }
     text
 }
 

@@ -104,9 +104,7 @@ module _ {T : Type 0} (m : Meaning) (lawful : Lawful m) (b : Book T) (bytes : �
 
   routed : (a : Result (ℕ × ℕ) Refusal) → r ≡ counted a → (none : Bool) → rowless b.host ≡ none → MatchBool none ((a ≡ Err NoRow) × (new ≡ b)) (Planned b m a new) → Stepped m b Route r new bytes
   routed a told true e p =
-      looked Route refl (λ stands. both_ways _ stands e)
-      (subst (λ none. MatchBool none (r ≡ Err NoRow) ((g : List (List ℕ)) × Best (card_of b.host) m g × (r ≡ counted (Ok (counts b.host m g))))) (sym e) (told ∙ ap counted p.0))
-      p.1
+      looked Route refl (λ stands. both_ways _ stands e) (a, answers, told) p.1
   routed a told false e p =
       let answer = told ∙ ap counted p.counted in
       planned Route p.toll p.family refl e p.plan p.ordered answer

@@ -21,7 +21,7 @@ use Rattle.book.specs.declared.refusal.Refusal.{Refusal}
 use Rattle.book.specs.declared.refusal.Refusal.TheVariants.{NoRow}
 use Rattle.book.specs.Books.{counts, columns, tolls}
 use Rattle.book.specs.Calls.{by_card, rowless, greedy_answer, greedy_buffer, trial_answer}
-use Rattle.book.specs.Plans.{verdict, judge_answer}
+use Rattle.book.specs.Plans.{verdict, judge_answer, RouteAnswers}
 use Rattle.promise.specs.declared.call.Call.{Call}
 use Rattle.promise.specs.declared.call.Call.TheVariants.{Mark, Picture, Choose, Trial, Greedy, Route, Judge}
 use Rattle.promise.specs.declared.call.Reply.{Reply}
@@ -88,7 +88,7 @@ Answers m h bytes (Picture row text) r = r ≡ done (by_card (answer h (picturin
 Answers m h bytes (Choose row state) r = r ≡ done (by_card (answer h (choosing row state)))
 Answers m h bytes (Trial row) r = r ≡ counted (trial_answer h m row)
 Answers m h bytes (Greedy room) r = r ≡ counted (greedy_answer h m (min room bytes))
-Answers m h bytes Route r = MatchBool (rowless h) (r ≡ Err NoRow) ((f : List (List ℕ)) × Best (card_of h) m f × (r ≡ counted (Ok (counts h m f))))
+Answers m h bytes Route r = (a : Result (ℕ × ℕ) Refusal) × RouteAnswers h m a × (r ≡ counted a)
 Answers m h bytes (Judge sheet) r = r ≡ counted (judge_answer h m sheet.now)
 
 -- what a call leaves in the buffer: greedy has its first bytes
