@@ -1,5 +1,5 @@
 -- The promise is kept. Assumes nothing.
-use Rattle.std.proofs.Common.{Bool, ◌≡◌, ℕ, ◌↔◌, true, false, cond, ◌⊎◌, List, [], ◌∷◌, ◌++◌, length, Some, None, Ok, Option, is_some, IsSome, IfSome, IsSomeAnd, MatchBool, Err, Ok, sym, refl, ap, ap₂, ◌∙◌, subst, inl, inr}
+use Rattle.std.proofs.Common.{Bool, ◌≡◌, ℕ, ◌↔◌, true, false, cond, ◌⊎◌, List, [], ◌∷◌, ◌++◌, length, Some, None, Ok, Err, Option, Result, is_some, IsSome, IfSome, IsSomeAnd, MatchBool, sym, refl, ap, ap₂, ◌∙◌, subst, inl, inr}
 use Rattle.std.proofs.lemmas.Bool.{cases_Bool}
 use Rattle.host.specs.declared.Host.{Host}
 use Rattle.host.specs.declared.size.Size.{Size}
@@ -14,12 +14,13 @@ use Rattle.plans.specs.declared.held.HeldPlan.{HeldPlan}
 use Rattle.routable.specs.Cards.{card_of}
 use Rattle.verdict.specs.Theorems.{LeftToRight}
 use Rattle.book.specs.declared.Book.{Book}
+use Rattle.book.specs.declared.refusal.Refusal.{Refusal}
 use Rattle.book.specs.declared.refusal.Refusal.TheVariants.{NoRow}
 use Rattle.book.specs.Books.{counts, columns, tolls}
 use Rattle.book.specs.Calls.{rowless}
 use Rattle.promise.specs.declared.call.Call.{Call}
 use Rattle.promise.specs.declared.call.Call.TheVariants.{Route}
-use Rattle.promise.specs.Promise.{next, map_after, altering, Makes, LastPlan, Answer, counted, Answers, buffer_after, written, HoldsPlan, Promise}
+use Rattle.promise.specs.Promise.{next, map_after, altering, Makes, LastPlan, Answer, counted, Answered, buffer_after, written, HoldsPlan, Promise}
 use Rattle.promise.specs.Runs.{State, start, Step, Run, none, more}
 use Rattle.promise.proofs.Lasts.{nothing_last, lasts}
 use Rattle.promise.proofs.LastPlans.{Keeps, Before, last_here, last_before, last_or_before}
@@ -33,12 +34,12 @@ record Kept {T : Type 0} (z : Size) (tariff : T) (m : Meaning) (calls : List Cal
   same_tariff : book.tariff ≡ tariff
   map : book.host ≡ map_after z calls
   held : IsSome book.counts ↔ LastPlan z m calls
-  of_last : (l : LastPlan z m calls) → IsSomeAnd book.counts (λ p. Answers m (map_after z l.before) (length old) l.maker (counted (Ok p)))
+  of_last : (l : LastPlan z m calls) → IsSomeAnd book.counts (λ p. Answered m (map_after z l.before) (length old) l.maker (counted (Ok p)))
   of_sheet : (l : LastPlan z m calls) → OfSheet m (map_after z l.before) l.maker book.plan
   plan : IfSome book.counts (HoldsPlan m book)
   plan_answered : (xs : List Call) (c : Call) → calls ≡ xs ++ c ∷ [] → Makes m (map_after z xs) c →
       (p : ℕ × ℕ) × (book.counts ≡ Some p) × (reply ≡ Some (counted (Ok p)))
-  last_reply : (xs : List Call) (c : Call) → calls ≡ xs ++ c ∷ [] → IsSomeAnd reply (Answers m (map_after z xs) (length old) c)
+  last_reply : (xs : List Call) (c : Call) → calls ≡ xs ++ c ∷ [] → IsSomeAnd reply (Answered m (map_after z xs) (length old) c)
   no_reply : calls ≡ [] → reply ≡ None
   buffer : new ≡ written (opened z) calls old
 
@@ -72,13 +73,13 @@ none_some : ¬ (false ≡ true)
 none_some e = cc
 
 -- of what a route is answered
-refused : (m : Meaning) (h : Host) (bytes : ℕ) (reply : Option Answer) → IsSomeAnd reply (Answers m h bytes Route) → (reply ≡ Some (Err NoRow)) ↔ (rowless h ≡ true)
+refused : (m : Meaning) (h : Host) (bytes : ℕ) (reply : Option Answer) → IsSomeAnd reply (Answered m h bytes Route) → (reply ≡ Some (Err NoRow)) ↔ (rowless h ≡ true)
 refused m h bytes None r = absurd r
-refused m h bytes (Some a) r = by (rowless h) r
+refused m h bytes (Some a) r = by r.0 (rowless h) r.1 r.2
   where
-    by : (b : Bool) → MatchBool b (a ≡ Err NoRow) ((f : List (List ℕ)) × Best (card_of h) m f × (a ≡ counted (Ok (counts h m f)))) → (Some a ≡ Some (Err NoRow)) ↔ (b ≡ true)
-    by true e = (λ _. refl, λ _. ap Some e)
-    by false e = (λ is. other is e.2, λ no. cc)
+    by : (x : Result (ℕ × ℕ) Refusal) (b : Bool) → MatchBool b (x ≡ Err NoRow) ((f : List (List ℕ)) × Best (card_of h) m f × (x ≡ Ok (counts h m f))) → a ≡ counted x → (Some a ≡ Some (Err NoRow)) ↔ (b ≡ true)
+    by x true e told = (λ _. refl, λ _. ap Some (told ∙ ap counted e))
+    by x false e told = (λ is. other is (told ∙ ap counted e.2), λ no. cc)
       where
         other : {X : Type 0} {p : ℕ × ℕ} → Some a ≡ Some (Err NoRow) → a ≡ counted (Ok p) → X
         other is e = cc
@@ -155,23 +156,23 @@ module _ {T : Type 0} (z : Size) (tariff : T) (m : Meaning) (lawful : Lawful m) 
     last_some l (inl e) = ap is_some (makes (as_last l e.0 e.1)).counts
     last_some l (inr b) = ap is_some (still b.keeps) ∙ k.held.1 b.last
 
-    answers : (xs : List Call) (d : Call) → (calls ≡ xs) × (c ≡ d) → Answers m (map_after z xs) (length old) d step.answer
+    answers : (xs : List Call) (d : Call) → (calls ≡ xs) × (c ≡ d) → Answered m (map_after z xs) (length old) d step.answer
     answers xs d e =
-        subst (λ x. Answers m (map_after z xs) (length old) x step.answer) e.1
-        (subst (λ xs. Answers m (map_after z xs) (length old) c step.answer) e.0
-        (subst (λ n. Answers m (map_after z calls) n c step.answer) (ap length k.buffer ∙ length-written (opened z) calls old)
-        (subst (λ h. Answers m h (length s.buffer) c step.answer) k.map facts.answers)))
+        subst (λ x. Answered m (map_after z xs) (length old) x step.answer) e.1
+        (subst (λ xs. Answered m (map_after z xs) (length old) c step.answer) e.0
+        (subst (λ n. Answered m (map_after z calls) n c step.answer) (ap length k.buffer ∙ length-written (opened z) calls old)
+        (subst (λ h. Answered m h (length s.buffer) c step.answer) k.map facts.answers)))
 
     told : (l : LastPlan z m (calls ++ c ∷ [])) → ((calls ≡ l.before) × (c ≡ l.maker)) ⊎ Before z m calls c l →
-        IsSomeAnd new.book.counts (λ p. Answers m (map_after z l.before) (length old) l.maker (counted (Ok p)))
+        IsSomeAnd new.book.counts (λ p. Answered m (map_after z l.before) (length old) l.maker (counted (Ok p)))
     told l (inl e) =
         let w = makes (as_last l e.0 e.1) in
-        subst (λ o. IsSomeAnd o (λ p. Answers m (map_after z l.before) (length old) l.maker (counted (Ok p)))) (sym w.counts)
-        (subst (Answers m (map_after z l.before) (length old) l.maker) w.answer (answers l.before l.maker e))
+        subst (λ o. IsSomeAnd o (λ p. Answered m (map_after z l.before) (length old) l.maker (counted (Ok p)))) (sym w.counts)
+        (subst (Answered m (map_after z l.before) (length old) l.maker) w.answer (answers l.before l.maker e))
     told l (inr b) =
-        subst (λ o. IsSomeAnd o (λ p. Answers m (map_after z l.before) (length old) l.maker (counted (Ok p)))) (sym (still b.keeps))
-        (subst (λ d. IsSomeAnd s.book.counts (λ p. Answers m (map_after z l.before) (length old) d (counted (Ok p)))) b.same_maker
-        (subst (λ xs. IsSomeAnd s.book.counts (λ p. Answers m (map_after z xs) (length old) b.last.maker (counted (Ok p)))) b.same_before (k.of_last b.last)))
+        subst (λ o. IsSomeAnd o (λ p. Answered m (map_after z l.before) (length old) l.maker (counted (Ok p)))) (sym (still b.keeps))
+        (subst (λ d. IsSomeAnd s.book.counts (λ p. Answered m (map_after z l.before) (length old) d (counted (Ok p)))) b.same_maker
+        (subst (λ xs. IsSomeAnd s.book.counts (λ p. Answered m (map_after z xs) (length old) b.last.maker (counted (Ok p)))) b.same_before (k.of_last b.last)))
 
     sheet : (l : LastPlan z m (calls ++ c ∷ [])) → ((calls ≡ l.before) × (c ≡ l.maker)) ⊎ Before z m calls c l → OfSheet m (map_after z l.before) l.maker new.book.plan
     sheet l (inl e) =
@@ -211,7 +212,7 @@ module _ {T : Type 0} (z : Size) (tariff : T) (m : Meaning) (lawful : Lawful m) 
           let at = lasts calls xs c d e in
           let w = makes (subst (λ x. Makes m (map_after z calls) x) (sym at.1) (subst (λ xs. Makes m (map_after z xs) d) (sym at.0) does)) in
           (w.number, w.counts, step.reply ∙ ap Some w.answer);
-      last_reply = λ xs d e. subst (λ o. IsSomeAnd o (Answers m (map_after z xs) (length old) d)) (sym step.reply) (answers xs d (lasts calls xs c d e));
+      last_reply = λ xs d e. subst (λ o. IsSomeAnd o (Answered m (map_after z xs) (length old) d)) (sym step.reply) (answers xs d (lasts calls xs c d e));
       no_reply = λ e. nothing_last calls [] c (sym e);
       buffer = step.buffer ∙ ap₂ (λ g b. buffer_after g c b) k.map k.buffer ∙ sym (written-more (opened z) calls c old);
     }

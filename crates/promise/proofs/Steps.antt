@@ -7,7 +7,6 @@ use Rattle.std.proofs.lemmas.Bool.{both_ways}
 use Rattle.host.specs.declared.Host.{Host}
 use Rattle.host.specs.Changes.{Change, after, alters}
 use Rattle.tariff.specs.Meaning.{Meaning, Lawful}
-use Rattle.plans.specs.Families.{Best}
 use Rattle.plans.specs.Tolls.{Tolls, Plan}
 use Rattle.plans.specs.Held.{held}
 use Rattle.plans.specs.declared.held.HeldPlan.{HeldPlan}
@@ -19,12 +18,13 @@ use Rattle.book.specs.declared.refusal.Refusal.{Refusal}
 use Rattle.book.specs.declared.refusal.Refusal.TheVariants.{NoRow}
 use Rattle.book.specs.Books.{counts, changed, holding}
 use Rattle.book.specs.Calls.{rowless}
-use Rattle.book.specs.Plans.{verdict, judge_answer, taken, Planned}
+use Rattle.book.specs.Plans.{verdict, judge_answer, RouteAnswers, taken, Planned}
+use Rattle.book.proofs.Routes.{routed_answers}
 use Rattle.promise.specs.declared.call.Call.{Call}
 use Rattle.promise.specs.declared.call.Call.TheVariants.{Mark, Picture, Choose, Trial, Greedy, Route, Judge}
-use Rattle.promise.specs.Promise.{change_of, next, altering, Makes, Answer, counted, Answers, HoldsPlan}
+use Rattle.promise.specs.Promise.{change_of, next, altering, Makes, Answer, counted, Answered, HoldsPlan}
 use Rattle.promise.specs.Runs.{Called}
-use Rattle.promise.proofs.Plans.{holds, sound, plan_best}
+use Rattle.promise.proofs.Plans.{holds, sound}
 
 -- a plan is that of the sheet that a judge accepted
 abbrev pub OfSheet : Meaning → Host → Call → HeldPlan → Type 0
@@ -49,7 +49,7 @@ module _ {T : Type 0} (m : Meaning) (b : Book T) (c : Call) (r : Answer) (new : 
   pub record Stepped (bytes : ℕ) : Type 0 where
     pub tariff : new.tariff ≡ b.tariff
     pub map : new.host ≡ next b.host c
-    pub answers : Answers m b.host bytes c r
+    pub answers : Answered m b.host bytes c r
     pub way : Making ⊎ Keeping
 
 route_no_judge : {X : Type 0} (sheet : Bor (List ℕ)) → Route ≡ Judge sheet → X
@@ -60,7 +60,7 @@ same_sheet s t e = cc
 
 module _ {T : Type 0} (m : Meaning) (lawful : Lawful m) (b : Book T) (bytes : ℕ) (r : Answer) (new : Book T) where
   -- a mark, picture or choice
-  settled : (c : Call) (x : Change) → change_of c ≡ Some x → ¬ Makes m b.host c → Answers m b.host bytes c r → new ≡ changed b x → Stepped m b c r new bytes
+  settled : (c : Call) (x : Change) → change_of c ≡ Some x → ¬ Makes m b.host c → Answered m b.host bytes c r → new ≡ changed b x → Stepped m b c r new bytes
   settled c x is none answers e = record {
     tariff = ap (λ (b : Book T). b.tariff) e;
     map = ap (λ (b : Book T). b.host) e ∙ ap (λ o. option_map_or (after b.host) o b.host) (sym is);
@@ -73,7 +73,7 @@ module _ {T : Type 0} (m : Meaning) (lawful : Lawful m) (b : Book T) (bytes : �
   }
 
   -- a call that asks nothing of the map and makes no plan
-  looked : (c : Call) → change_of c ≡ None → ¬ Makes m b.host c → Answers m b.host bytes c r → new ≡ b → Stepped m b c r new bytes
+  looked : (c : Call) → change_of c ≡ None → ¬ Makes m b.host c → Answered m b.host bytes c r → new ≡ b → Stepped m b c r new bytes
   looked c is none answers e = record {
     tariff = ap (λ (b : Book T). b.tariff) e;
     map = ap (λ (b : Book T). b.host) e ∙ ap (λ o. option_map_or (after b.host) o b.host) (sym is);
@@ -87,7 +87,7 @@ module _ {T : Type 0} (m : Meaning) (lawful : Lawful m) (b : Book T) (bytes : �
 
   -- a call that makes a plan
   planned : (c : Call) (toll : Tolls) (f : List (List ℕ)) → change_of c ≡ None → Makes m b.host c → Plan (card_of b.host) m toll f → LeftToRight f →
-      r ≡ counted (Ok (counts b.host m f)) → Answers m b.host bytes c r → (new ≡ holding b m f toll → OfSheet m b.host c new.plan) → new ≡ holding b m f toll → Stepped m b c r new bytes
+      r ≡ counted (Ok (counts b.host m f)) → Answered m b.host bytes c r → (new ≡ holding b m f toll → OfSheet m b.host c new.plan) → new ≡ holding b m f toll → Stepped m b c r new bytes
   planned c toll f is makes plan ordered told answers of_sheet e = record {
     tariff = ap (λ (b : Book T). b.tariff) e;
     map = ap (λ (b : Book T). b.host) e ∙ ap (λ o. option_map_or (after b.host) o b.host) (sym is);
@@ -102,16 +102,11 @@ module _ {T : Type 0} (m : Meaning) (lawful : Lawful m) (b : Book T) (bytes : �
     });
   }
 
-  routed : (a : Result (ℕ × ℕ) Refusal) → r ≡ counted a → (none : Bool) → rowless b.host ≡ none → MatchBool none ((a ≡ Err NoRow) × (new ≡ b)) (Planned b m a new) → Stepped m b Route r new bytes
-  routed a told true e p =
-      looked Route refl (λ stands. both_ways _ stands e) (a, answers, told) p.1
-  routed a told false e p =
-      let answer = told ∙ ap counted p.counted in
-      planned Route p.toll p.family refl e p.plan p.ordered answer
-      (subst (λ none. MatchBool none (r ≡ Err NoRow) ((g : List (List ℕ)) × Best (card_of b.host) m g × (r ≡ counted (Ok (counts b.host m g))))) (sym e)
-      (p.family, plan_best b.host m lawful p.toll p.family p.plan, answer))
-      (λ is sheet other. route_no_judge sheet other)
-      p.held
+  routed : (a : Result (ℕ × ℕ) Refusal) → RouteAnswers b.host m a → r ≡ counted a → (none : Bool) → rowless b.host ≡ none → MatchBool none ((a ≡ Err NoRow) × (new ≡ b)) (Planned b m a new) →
+      Stepped m b Route r new bytes
+  routed a answers told true e p = looked Route refl (λ stands. both_ways _ stands e) (a, answers, told) p.1
+  routed a answers told false e p =
+      planned Route p.toll p.family refl e p.plan p.ordered (told ∙ ap counted p.counted) (a, answers, told) (λ is sheet other. route_no_judge sheet other) p.held
 
   judged : (sheet : Bor (List ℕ)) (v : Result Accepted Refusal) → verdict b.host m sheet.now ≡ v → r ≡ counted (judge_answer b.host m sheet.now) →
       new ≡ taken b m v → Stepped m b (Judge sheet) r new bytes
@@ -133,5 +128,5 @@ module _ {T : Type 0} (m : Meaning) (lawful : Lawful m) (b : Book T) (bytes : �
   stepped (Choose row state) e = settled (Choose row state) _ refl (λ x. x) e.0 e.1
   stepped (Trial row) e = looked (Trial row) refl (λ x. x) e.0 e.1
   stepped (Greedy room) e = looked (Greedy room) refl (λ x. x) e.0 e.1
-  stepped Route e = routed e.0 e.1 (rowless b.host) refl e.2
+  stepped Route e = routed e.0 (routed_answers b m e.0 new lawful e.2) e.1 (rowless b.host) refl e.2
   stepped (Judge sheet) e = judged sheet (verdict b.host m sheet.now) refl e.0 e.1

@@ -1,5 +1,5 @@
 -- What a book keeps, whatever calls are made on it. Assumes nothing.
-use Rattle.std.specs.Prelude.{◌≡◌, ℕ, min, Bool, true, false, ◌↔◌, List, [], ◌∷◌, ◌++◌, length, take, drop, fold, Some, None, Ok, Err, Option, Result, IsSome, IfSome, IsSomeAnd, IsOk, MatchBool, unwrap_or, option_and_then}
+use Rattle.std.specs.Prelude.{◌≡◌, ℕ, min, Bool, true, false, ◌↔◌, List, [], ◌∷◌, ◌++◌, length, take, drop, fold, Some, None, Ok, Err, Option, Result, IsSome, IfSome, IsSomeAnd, IsOk, unwrap_or, option_and_then}
 use Rattle.std.specs.Borrow.{Bor}
 use Rattle.std.specs.Option.{option_or, option_map_or}
 use Rattle.std.specs.Result.{result_map_both}
@@ -82,14 +82,14 @@ abbrev pub counted : Result (ℕ × ℕ) Refusal → Answer
 counted r = result_map_both (λ p. Counts p.0 p.1) (λ x. x) r
 
 -- what a call on a map is answered, where the buffer has so many bytes; a route answers for some best family
-abbrev pub Answers : Meaning → Host → ℕ → Call → Answer → Type 0
-Answers m h bytes (Mark part state) r = r ≡ done (by_card (answer h (marking part state)))
-Answers m h bytes (Picture row text) r = r ≡ done (by_card (answer h (picturing row text.now)))
-Answers m h bytes (Choose row state) r = r ≡ done (by_card (answer h (choosing row state)))
-Answers m h bytes (Trial row) r = r ≡ counted (trial_answer h m row)
-Answers m h bytes (Greedy room) r = r ≡ counted (greedy_answer h m (min room bytes))
-Answers m h bytes Route r = (a : Result (ℕ × ℕ) Refusal) × RouteAnswers h m a × (r ≡ counted a)
-Answers m h bytes (Judge sheet) r = r ≡ counted (judge_answer h m sheet.now)
+abbrev pub Answered : Meaning → Host → ℕ → Call → Answer → Type 0
+Answered m h bytes (Mark part state) r = r ≡ done (by_card (answer h (marking part state)))
+Answered m h bytes (Picture row text) r = r ≡ done (by_card (answer h (picturing row text.now)))
+Answered m h bytes (Choose row state) r = r ≡ done (by_card (answer h (choosing row state)))
+Answered m h bytes (Trial row) r = r ≡ counted (trial_answer h m row)
+Answered m h bytes (Greedy room) r = r ≡ counted (greedy_answer h m (min room bytes))
+Answered m h bytes Route r = (a : Result (ℕ × ℕ) Refusal) × RouteAnswers h m a × (r ≡ counted a)
+Answered m h bytes (Judge sheet) r = r ≡ counted (judge_answer h m sheet.now)
 
 -- what a call leaves in the buffer: greedy has its first bytes
 abbrev pub buffer_after : Host → Call → List ℕ → List ℕ
@@ -119,7 +119,7 @@ pub record Promise {T : Type 0} (z : Size) (tariff : T) (m : Meaning) (calls : L
   -- a plan is held exactly when a call made one and no later call altered a state
   pub held : IsSome book.counts ↔ LastPlan z m calls
   -- it is the plan of the last call that made one: what that call answered are its number and total charge
-  pub of_last : (l : LastPlan z m calls) → IsSomeAnd book.counts (λ p. Answers m (map_after z l.before) (length old) l.maker (counted (Ok p)))
+  pub of_last : (l : LastPlan z m calls) → IsSomeAnd book.counts (λ p. Answered m (map_after z l.before) (length old) l.maker (counted (Ok p)))
   -- and of a judge it has the sheet's columns and tolls
   pub of_sheet : (l : LastPlan z m calls) (sheet : Bor (List ℕ)) → l.maker ≡ Judge sheet →
       (a : Accepted) × (verdict (map_after z l.before) m sheet.now ≡ Ok a) × (book.plan ≡ plan_of a.columns (toll_of a.tolls))
@@ -139,7 +139,7 @@ pub record Promise {T : Type 0} (z : Size) (tariff : T) (m : Meaning) (calls : L
   pub plan_answered : (before : List Call) (c : Call) → calls ≡ before ++ c ∷ [] → Makes m (map_after z before) c →
       (p : ℕ × ℕ) × (book.counts ≡ Some p) × (reply ≡ Some (counted (Ok p)))
   -- the last reply is pinned by the calls before it; without a call there is none
-  pub last_reply : (before : List Call) (c : Call) → calls ≡ before ++ c ∷ [] → IsSomeAnd reply (Answers m (map_after z before) (length old) c)
+  pub last_reply : (before : List Call) (c : Call) → calls ≡ before ++ c ∷ [] → IsSomeAnd reply (Answered m (map_after z before) (length old) c)
   pub no_reply : calls ≡ [] → reply ≡ None
   -- and so is what greedy wrote
   pub buffer : new ≡ written (opened z) calls old

@@ -10,7 +10,7 @@ use Rattle.book.specs.Calls.{by_card, greedy_answer, trial_answer}
 use Rattle.book.specs.Plans.{judge_answer, judged_book, Routed}
 use Rattle.promise.specs.declared.call.Call.{Call}
 use Rattle.promise.specs.declared.call.Call.TheVariants.{Mark, Picture, Choose, Trial, Greedy, Route, Judge}
-use Rattle.promise.specs.Promise.{Answer, done, counted, buffer_after, Promise}
+use Rattle.promise.specs.Promise.{Answer, done, counted, buffer_after}
 
 -- what a call answers and leaves, as the calls' own contracts say it; greedy has so much room
 abbrev pub Called : {T : Type 0} → Meaning → Book T → ℕ → Call → Answer → Book T → Type 0
@@ -42,9 +42,3 @@ pub record Step {T : Type 0} (m : Meaning) (s : State T) (c : Call) (new : State
 pub data Run {T : Type 0} (m : Meaning) (s : State T) : List Call → State T → Type 0 where
   none : Run m s [] s
   more : (calls : List Call) (between : State T) (c : Call) (new : State T) → Run m s calls between → Step m between c new → Run m s (calls ++ c ∷ []) new
-
--- whatever is called on an opened book, the promise is kept; a tariff of type T means what `meaning` says
-abbrev pub RunsKeepPromise : {T : Type 0} → (T → Meaning) → Type 0
-RunsKeepPromise {T} meaning =
-    (z : Size) (tariff : T) (calls : List Call) (buffer : List ℕ) (s : State T) →
-    Run (meaning tariff) (start z tariff buffer) calls s → Promise z tariff (meaning tariff) calls s.book s.reply buffer s.buffer
