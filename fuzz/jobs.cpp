@@ -324,11 +324,12 @@ bool program_differs(const std::string &program, const Bytes &job, bool print = 
     return status != 0 || printed != text;
 }
 
-// A shorter job that differs too, by leaving out runs of bytes.
+// A shorter job that differs too, by leaving out runs of bytes, for as long as 20 seconds.
 template <class Differs> Bytes shortened(Bytes job, Differs differs)
 {
+    time_t stop = std::time(nullptr) + 20;
     for (size_t run = job.size(); run > 0; run /= 2)
-        for (size_t at = 0; at + run <= job.size();) {
+        for (size_t at = 0; at + run <= job.size() && std::time(nullptr) < stop;) {
             Bytes less = job;
             less.erase(less.begin() + long(at), less.begin() + long(at + run));
             less.reserve(1);
@@ -343,6 +344,7 @@ template <class Differs> Bytes shortened(Bytes job, Differs differs)
 template <class Differs> [[noreturn]] void report(const Bytes &whole, Differs differs)
 {
     std::printf("they differ at seed %lu on a job of %zu bytes, shortened here:\n", (unsigned long)seed_now, whole.size());
+    std::fflush(stdout);
     Bytes job = shortened(whole, [&](const Bytes &less) { return differs(less, false); });
     for (uint8_t byte : job)
         std::printf("%02x", byte);
