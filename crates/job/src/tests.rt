@@ -66,7 +66,8 @@ fn greedy_has_a_line_with_its_counts(rt: HostRuntime) {
 }
 
 /// The sheet of a plan for 2 rows by 3 columns, where PEs (0, 0) and (1, 2) are faulty.
-const SHEET: [u8; 32] = *b"\x01\x02\x03\0\0\0\0\0\0\0\x03\x02\x01\x03\x02\x02\x03\x06\0\x01\0\x4C\x4B\x3F\x06\x01\x01\0\x4C\x4B\x3F\x07";
+const SHEET: [u8; 32] =
+    *b"\x01\x02\x03\0\0\0\0\0\0\0\x03\x02\x01\x03\x02\x02\x03\x06\0\x01\0\x4C\x4B\x3F\x06\x01\x01\0\x4C\x4B\x3F\x07";
 
 #[test]
 fn a_sheet_follows_its_judge(rt: HostRuntime) {
@@ -74,11 +75,7 @@ fn a_sheet_follows_its_judge(rt: HostRuntime) {
     let mut job = [0u8; 46];
     job[..14].copy_from_slice(b"\x10\x02\x03\x11\x00\x00\x01\x11\x01\x02\x01\x16\x15\x17");
     job[14..].copy_from_slice(&SHEET);
-    gives(
-        &rt,
-        &job,
-        b"10 ok\n11 ok\n11 ok\n16 2 2\n15 2 2\n17 2 2\n",
-    );
+    gives(&rt, &job, b"10 ok\n11 ok\n11 ok\n16 2 2\n15 2 2\n17 2 2\n");
     // one less in the last toll, and one more
     job[44] = 0x3E;
     gives(
@@ -119,11 +116,7 @@ fn a_sheet_ends_with_its_first_end_record(rt: HostRuntime) {
 
 #[test]
 fn without_a_card_or_a_row_a_sheet_is_passed_over(rt: HostRuntime) {
-    gives(
-        &rt,
-        b"\x15\x17\x08\x07",
-        b"15 no 9\n17 no 9\n",
-    );
+    gives(&rt, b"\x15\x17\x08\x07", b"15 no 9\n17 no 9\n");
     gives(
         &rt,
         b"\x17\x07\x10\x01\x01\x14\x00\x00\x15\x17\x07\x16",
