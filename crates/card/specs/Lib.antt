@@ -1,0 +1,4 @@
+pub mod Drawings
+pub mod Scripts
+pub mod Canvas
+pub mod Columns
