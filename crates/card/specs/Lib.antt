@@ -2,3 +2,4 @@ pub mod Drawings
 pub mod Scripts
 pub mod Canvas
 pub mod Columns
+pub mod Asking

@@ -1,4 +1,7 @@
 //! What a list of calls on a book of a drawn card is answered.
+ghost use Rattle.card.specs.Asking.{KeepsPromise};
+ghost use Rattle.card.specs.Scripts.{calls};
+
 use crate::drawing::Drawing;
 use crate::pile::pile;
 use crate::script::Script;
@@ -12,7 +15,9 @@ const ROOM: usize = 4096;
 pub const GREEDY: Call<'static> = Call::Greedy { room: ROOM };
 
 /// The reply to the last call.
-pub fn reply(drawing: Drawing<'_>, script: &Script<'_>) -> Option<Result<Reply, Refusal>> {
+pub fn reply(drawing: Drawing<'_>, script: &Script<'_>) -> Option<Result<Reply, Refusal>>
+    ensures { KeepsPromise drawing.entry (calls script.now) result }
+{
     let mut buffer = [0; ROOM];
     let (_book, reply) = replay(
         drawing.size,

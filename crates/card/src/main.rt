@@ -12,6 +12,8 @@ mod drawing;
 mod pile;
 mod report;
 mod script;
+#[cfg(test)]
+mod tests;
 mod words;
 
 /// One byte more than the drawing of any card, 64 lines of 64 characters.

@@ -22,10 +22,10 @@ pub fn report<W: Write>(alloc: Global, out: &mut W, text: &[u8]) -> io::Result<(
         Ok(drawing) => drawing,
         Err(refusal) => return writeln!(out, "no {}", u8::from(refusal)),
     };
-    for row in 1..=lines.len() {
-        let told = Told(reply(drawing, &Script::of_lines(&lines[..row])));
+    for row in 0..lines.len() {
+        let told = Told(reply(drawing, &Script::of_lines(&lines[..=row])));
         if told.is_refused() {
-            return writeln!(out, "line {row}: {told}");
+            return writeln!(out, "row {row}: {told}");
         }
     }
     let rows = drawing.size.rows();
