@@ -1,5 +1,6 @@
 //! What a list of calls on a book of a drawn card is answered.
-ghost use Rattle.card.specs.Asking.{KeepsPromise};
+ghost use Rattle.std.specs.Prelude.{◌≡◌, take};
+ghost use Rattle.card.specs.Asking.{KeepsPromise, PlanWritten};
 ghost use Rattle.card.specs.Scripts.{calls};
 
 use crate::drawing::Drawing;
@@ -37,7 +38,9 @@ pub fn columns(drawing: Drawing<'_>, script: &Script<'_>) -> u32 {
 }
 
 /// The sheet of the plan that is held after the calls, at the front of a buffer; nothing where none is held.
-pub fn planned<'a>(drawing: Drawing<'_>, script: &Script<'_>, sheet: &'a mut [u8]) -> &'a [u8] {
+pub fn planned<'a>(drawing: Drawing<'_>, script: &Script<'_>, sheet: &'a mut [u8]) -> &'a [u8]
+    ensures { PlanWritten drawing.entry (calls script.now) sheet.old result.now }
+{
     let mut buffer = [0; ROOM];
     let (book, _reply) = replay(
         drawing.size,
@@ -46,5 +49,12 @@ pub fn planned<'a>(drawing: Drawing<'_>, script: &Script<'_>, sheet: &'a mut [u8
         &mut buffer,
     );
     let length = book.plan_out(sheet).unwrap_or(0);
-    sheet.get(..length).unwrap_or(&[])
+    front(sheet, length)
+}
+
+/// The first bytes, so many or as many as there are.
+fn front(bytes: &[u8], most: usize) -> &[u8]
+    ensures { result.now ≡ take most bytes.now }
+{
+    &bytes[..most.min(bytes.len())]
 }

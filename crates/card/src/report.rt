@@ -15,6 +15,11 @@ use std::alloc::Global;
 use std::io;
 use std::io::Write;
 
+/// No sheet is longer.
+const LONGEST_SHEET: usize = 32_844;
+
+const BYTES_A_LINE: usize = 32;
+
 /// Tells what a drawing is refused for, or what its card carries.
 pub fn report<W: Write>(alloc: Global, out: &mut W, text: &[u8]) -> io::Result<()> {
     let lines = lines(alloc, text)?;
@@ -34,7 +39,7 @@ pub fn report<W: Write>(alloc: Global, out: &mut W, text: &[u8]) -> io::Result<(
     tell(alloc, out, drawing)
 }
 
-/// The calls up to the choice of rows, and what they are answered.
+/// Whether fewer rows carry more PEs, which one is left out then, and all that follows.
 fn tell<W: Write>(alloc: Global, out: &mut W, drawing: Drawing<'_>) -> io::Result<()> {
     let pictures = Script::of_lines(drawing.lines);
     let whole = Told(reply(drawing, &pictures.with(GREEDY)));
@@ -53,7 +58,7 @@ fn tell<W: Write>(alloc: Global, out: &mut W, drawing: Drawing<'_>) -> io::Resul
     )
 }
 
-/// A repair that would help: made, asked about, and taken back.
+/// A repair that would help, made for greedy and taken back, and all that follows.
 fn tell_repair<W: Write>(
     alloc: Global,
     out: &mut W,
@@ -77,7 +82,7 @@ fn tell_repair<W: Write>(
     )
 }
 
-/// The plan that route makes, drawn and as its sheet.
+/// What greedy finds, and the plan that route makes, drawn and as its sheet.
 fn tell_plan<W: Write>(
     alloc: Global,
     out: &mut W,
@@ -122,8 +127,3 @@ fn tell_sheet<W: Write>(alloc: Global, out: &mut W, sheet: &[u8]) -> io::Result<
     }
     Ok(())
 }
-
-/// What no sheet is longer than.
-const LONGEST_SHEET: usize = 32_844;
-
-const BYTES_A_LINE: usize = 32;
