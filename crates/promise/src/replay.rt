@@ -27,11 +27,7 @@ pub fn replay<T: Tariff>(
 }
 
 /// Makes one call.
-fn apply<T: Tariff>(
-    book: &mut Book<T>,
-    call: Call<'_>,
-    buffer: &mut [u8],
-) -> Result<Reply, Refusal>
+fn apply<T: Tariff>(book: &mut Book<T>, call: Call<'_>, buffer: &mut [u8]) -> Result<Reply, Refusal>
     ensures called { Called (T.meaning book.old.tariff) book.old (length buffer.old) call.entry result book.new }
     ensures buffer { buffer.new ≡ buffer_after book.old.host call.entry buffer.old }
 {
