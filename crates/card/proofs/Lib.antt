@@ -1,1 +1,2 @@
 mod Pictures
+mod Warmth

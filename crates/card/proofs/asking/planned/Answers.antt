@@ -4,7 +4,7 @@ use Rattle.book.specs.Plans.{plan_out_answer, plan_out_buffer}
 use Rattle.card.proofs.asking.planned.Goals as goal
 
 pub returns : goal.returns
-returns c = (c.pile.result, c.replay-reply.result.0, c.replay-reply.result.1, c.replay-reply.new.buffer, (rw c.calls.ensures at c.replay-reply.ensures), written)
+returns c = (c.pile.result, c.pile.ensures, c.replay-reply.result.0, c.replay-reply.result.1, c.replay-reply.new.buffer, (rw c.calls.ensures at c.replay-reply.ensures), written)
   where
     sheet_length : ℕ
     sheet_length = result_unwrap_or (plan_out_answer c.replay-reply.result.0 (length c.args.sheet.now)) 0
