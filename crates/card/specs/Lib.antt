@@ -1,0 +1,6 @@
+pub mod Drawings
+pub mod Scripts
+pub mod Canvas
+pub mod Columns
+pub mod Piles
+pub mod Asking
