@@ -1,17 +1,15 @@
 //! A queue that suggests cells, about in the order of their keys. Nobody relies on what it suggests, so nothing is proved of it but
 //! that it stays within its bounds.
-const BUCKETS: usize = 2048;
+const BUCKETS: usize = 4096;
 
 /// Room for that many entries after each restart; more are forgotten.
 pub const ROOM: usize = 16_384;
 
-/// A bucket for each key from a base on, or for each 64 or 4,096 keys; in a bucket the newest entry comes first.
+/// A bucket for each key from a base on; in a bucket the newest entry comes first.
 #[derive(Drop)]
 pub struct Queue {
-    /// the first key of the first bucket
+    /// the key of the first bucket
     base: u32,
-    /// how many bits of a key a bucket leaves out
-    coarse: u32,
     /// the newest entry of each bucket, 0 for none
     newest: [u16; BUCKETS],
     /// the cell of each entry
@@ -28,7 +26,6 @@ impl Queue {
     pub fn new() -> Queue {
         Queue {
             base: 0,
-            coarse: 0,
             newest: [0; BUCKETS],
             cells: [0; ROOM],
             older: [0; ROOM],
@@ -37,13 +34,8 @@ impl Queue {
         }
     }
 
-    /// Empties it; the first bucket begins at a key. Later rounds, which begin past 0, have wider buckets.
+    /// Empties it; the first bucket is that of a key.
     pub fn restart(&mut self, base: u32) {
-        self.coarse = if base == 0 {
-            0
-        } else {
-            self.coarse.saturating_add(6).min(12)
-        };
         self.base = base;
         self.newest = [0; BUCKETS];
         self.next = 1;
@@ -53,7 +45,7 @@ impl Queue {
     /// Puts a cell in, if its key is below the limit, there is a bucket for it, and there is room.
     pub fn push(&mut self, cell: u16, key: u32, limit: u32) {
         let entry = self.next;
-        let bucket = (key.wrapping_sub(self.base) >> (self.coarse % 32)) as usize;
+        let bucket = key.wrapping_sub(self.base) as usize;
         if key >= limit || bucket >= BUCKETS || entry >= ROOM {
             return;
         }
@@ -66,7 +58,7 @@ impl Queue {
 
     /// A cell of the lowest bucket that has an entry, if its key is below the limit.
     pub fn take(&mut self, limit: u32) -> Option<usize> {
-        let end = BUCKETS.min((limit.saturating_sub(self.base) >> (self.coarse % 32)) as usize + 1);
+        let end = BUCKETS.min(limit.saturating_sub(self.base) as usize);
         for bucket in self.lowest..end {
             let entry = self.newest[bucket] as usize % ROOM;
             self.lowest = bucket;
