@@ -53,7 +53,10 @@ impl Queue {
         self.older[entry] = self.newest[bucket];
         self.newest[bucket] = entry as u16;
         self.next = entry + 1;
-        self.lowest = self.lowest.min(bucket);
+        // not by `min`: it would write each time, and what is taken next would wait for it
+        if bucket < self.lowest {
+            self.lowest = bucket;
+        }
     }
 
     /// A cell of the lowest bucket that has an entry, if its key is below the limit.
