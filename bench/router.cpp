@@ -1,7 +1,8 @@
 // The proved router, timed beside LEMON's Suurballe and CapacityScaling, each with several heaps, on the same random cards in one run.
 //
 // Ours is given the faults and heats of a card, and marks them, routes, and makes the plan with its tolls: all of that is its time.
-// LEMON is given its network ready made, and the number of columns too: its time is the solver's alone.
+// LEMON is given its network ready made, and the number of columns too: its time is the solver's alone. Times are of the processor, since
+// on a busy machine a longer run waits more often.
 #include "timing.hpp"
 #include <lemon/bin_heap.h>
 #include <lemon/bucket_heap.h>
@@ -18,6 +19,7 @@
 #include <numeric>
 #include <random>
 #include <string>
+#include <time.h>
 #include <utility>
 
 extern "C" uint32_t route_links(uint8_t rows, uint8_t columns, const uint16_t *faults, size_t count);
@@ -173,16 +175,61 @@ struct Measure {
     }
 };
 
+double processor_microseconds()
+{
+    timespec t;
+    clock_gettime(CLOCK_THREAD_CPUTIME_ID, &t);
+    return 1e6 * double(t.tv_sec) + 1e-3 * double(t.tv_nsec);
+}
+
 template <class Run> uint32_t timed(Measure &measure, Run run)
 {
-    auto start = std::chrono::steady_clock::now();
+    double start = processor_microseconds();
     uint32_t gain = run();
-    measure.cards.push_back(microseconds(start));
+    measure.cards.push_back(processor_microseconds() - start);
     return gain;
 }
 
 // How many columns so large a gain has: their charges together are below the worth of one.
 int columns_of(uint32_t gain) { return int((gain + WORTH - 1) / WORTH); }
+
+// The measures of one case, and which solvers take part.
+struct Race {
+    const Tariff &tariff;
+    Measure ours, building;
+    std::vector<Measure> theirs = std::vector<Measure>(SOLVERS.size());
+    std::vector<size_t> runners;
+
+    explicit Race(const Tariff &t) : tariff(t), runners(SOLVERS.size()) { std::iota(runners.begin(), runners.end(), 0); }
+
+    size_t fastest()
+    {
+        return *std::min_element(runners.begin(), runners.end(), [&](size_t i, size_t j) { return theirs[i].middle() < theirs[j].middle(); });
+    }
+
+    void run(const Card &card)
+    {
+        std::unique_ptr<Network> net;
+        timed(building, [&] { return net = std::make_unique<Network>(card, tariff), 0u; });
+        uint32_t gain = timed(ours, [&] { return tariff.route(card); });
+        for (size_t i : runners) {
+            uint32_t other = timed(theirs[i], [&] { return SOLVERS[i].solve(*net, columns_of(gain)); });
+            if (other != gain) {
+                std::printf("ours gains %u, %s %u\n", gain, SOLVERS[i].name, other);
+                std::exit(1);
+            }
+        }
+    }
+
+    void round(const Card *first, size_t count)
+    {
+        for (size_t i = 0; i < count; ++i)
+            run(first[i]);
+        ours.end_round(), building.end_round();
+        for (size_t i : runners)
+            theirs[i].end_round();
+    }
+};
 
 void compare(const Tariff &tariff, int side, int percent)
 {
@@ -190,38 +237,17 @@ void compare(const Tariff &tariff, int side, int percent)
     std::vector<Card> cards;
     for (int i = 0; i < cards_each; ++i)
         cards.push_back(random_card(side, percent, random));
-    Measure ours, building;
-    std::vector<Measure> theirs(SOLVERS.size());
-    auto fastest = [&] {
-        return std::min_element(theirs.begin(), theirs.end(), [](Measure &x, Measure &y) { return x.middle() < y.middle(); }) - theirs.begin();
-    };
-    std::vector<bool> left_out(SOLVERS.size(), false); // much slower than the fastest in the first round
-    for (int round = 0; round < rounds; ++round) {
-        for (const Card &card : cards) {
-            std::unique_ptr<Network> net;
-            timed(building, [&] { return net = std::make_unique<Network>(card, tariff), 0u; });
-            uint32_t gain = timed(ours, [&] { return tariff.route(card); });
-            for (size_t i = 0; i < SOLVERS.size(); ++i) {
-                if (left_out[i])
-                    continue;
-                uint32_t other = timed(theirs[i], [&] { return SOLVERS[i].solve(*net, columns_of(gain)); });
-                if (other != gain) {
-                    std::printf("ours gains %u, %s %u\n", gain, SOLVERS[i].name, other);
-                    std::exit(1);
-                }
-            }
-        }
-        ours.end_round(), building.end_round();
-        for (size_t i = 0; i < SOLVERS.size(); ++i)
-            if (!left_out[i])
-                theirs[i].end_round();
-        for (size_t i = 0; i < SOLVERS.size(); ++i)
-            left_out[i] = theirs[i].middle() > 1.3 * theirs[fastest()].middle();
-    }
-    size_t best = fastest();
-    double a = ours.middle(), b = theirs[best].middle();
+    // who is far from the fastest on a few cards takes no further part
+    Race trial(tariff), race(tariff);
+    trial.round(cards.data(), std::min<size_t>(cards.size(), 11));
+    double limit = 1.2 * trial.theirs[trial.fastest()].middle();
+    race.runners.erase(std::remove_if(race.runners.begin(), race.runners.end(), [&](size_t i) { return trial.theirs[i].middle() > limit; }), race.runners.end());
+    for (int round = 0; round < rounds; ++round)
+        race.round(cards.data(), cards.size());
+    size_t best = race.fastest();
+    double a = race.ours.middle(), b = race.theirs[best].middle();
     std::printf("%-13s %2d x %2d %6d %%   %8.1f  %3.0f %%   %8.1f  %3.0f %%   %6.2f   %15.1f   %s\n", tariff.name.c_str(), side, side, percent, a,
-        ours.spread(), b, theirs[best].spread(), b / a, building.middle(), SOLVERS[best].name);
+        race.ours.spread(), b, race.theirs[best].spread(), b / a, race.building.middle(), SOLVERS[best].name);
     std::fflush(stdout);
 }
 
@@ -231,7 +257,7 @@ int main(int count, char **arguments)
 {
     if (count == 3)
         cards_each = std::atoi(arguments[1]), rounds = std::atoi(arguments[2]);
-    std::printf("routing, median of %d random cards, middle of %d rounds, microseconds a card; +- is the spread of the rounds\n", cards_each, rounds);
+    std::printf("routing, median of %d random cards, middle of %d rounds, microseconds of processor a card; +- is the spread of the rounds\n", cards_each, rounds);
     std::printf("tariff           card   faulty      route    +-      LEMON    +-     LEMON / route   LEMON's network   LEMON's best\n");
     for (const Tariff &tariff : {links(), wire(1, 1), wire(250, 500), heat()})
         for (int percent : {1, 5, 10})
