@@ -5,6 +5,8 @@ ghost use Rattle.std.specs.Prelude.{◌≡◌, length};
 ghost use Rattle.host.specs.Sizes.{tested};
 ghost use Rattle.bench_calls.specs.Timed.{columns_of, bytes_of, judged_columns};
 
+pub mod routing;
+
 use host::Host;
 use host::size::Size;
 use judge::judge;

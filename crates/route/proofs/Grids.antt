@@ -1,6 +1,6 @@
 -- A grid that is laid out from a card holds it, and has a grid's shape. Assumes nothing.
-use Rattle.std.proofs.Common.{◌≡◌, ℕ, zero, suc, ◌+◌, ◌-◌, ◌*◌, ◌/◌, ◌%◌, ◌<◌, ◌≤◌, Bool, true, false, cond, ◌&&◌, ltb, ◌↔◌, List, [], ◌∷◌, length, get_or, map, sym, refl, ap, ◌∙◌, ap₂, subst, ⊎_elim, inl, inr, arith, pow_pos}
-use Rattle.std.proofs.lemmas.Bool.{cases_Bool, cases_lt, cases_eq, both_ways, and_parts, and_from, lt-ltb, ltb-true, le-ltb, cond-true, cond-false, cond_both}
+use Rattle.std.proofs.Common.{◌≡◌, ℕ, zero, suc, ◌+◌, ◌-◌, ◌*◌, ◌/◌, ◌%◌, ◌<◌, ◌≤◌, true, false, cond, ◌&&◌, ltb, ◌↔◌, [], ◌∷◌, length, get_or, sym, ap, ◌∙◌, ap₂, inl, inr, arith, pow_pos}
+use Rattle.std.proofs.lemmas.Bool.{cases_Bool, cases_lt, cases_eq, both_ways, and_parts, and_from, lt-ltb, ltb-true, cond-true, cond-false, cond_both}
 use Rattle.std.proofs.lemmas.List.{get_or_past, get_or-map, length-map}
 use Rattle.masks.specs.Masks.{bit, mask}
 use Rattle.masks.proofs.Bits.{bit_low}
@@ -8,7 +8,6 @@ use Rattle.masks.proofs.Masks.{bit-mask}
 use Rattle.tariff.specs.Meaning.{Meaning, Lawful}
 use Rattle.tariff.specs.declared.pe.Pe.{Pe}
 use Rattle.plans.specs.Columns.{Card, Within, Near, standing, row}
-use Rattle.plans.specs.Columns as Columns
 use Rattle.plans.specs.Tolls.{worth}
 use Rattle.plans.specs.Masked.{usable_rows}
 use Rattle.plans.proofs.ByRows.{few_rows}

@@ -1,6 +1,6 @@
 -- Rows that go down, the place of a row among them, and its tolls. Assumes nothing.
-use Rattle.std.proofs.Common.{◌≡◌, ℕ, zero, suc, ◌<◌, ◌≤◌, true, false, cond, not, eqb, ltb, List, [], ◌∷◌, length, get_or, replicate, Some, None, Option, ◌⊎◌, ap, ◌∙◌, refl, sym, inl, inr, arith}
-use Rattle.std.specs.List.{position, prefix_len}
+use Rattle.std.proofs.Common.{◌≡◌, ℕ, zero, suc, ◌<◌, false, cond, not, eqb, ltb, List, [], ◌∷◌, length, get_or, replicate, Some, None, ◌⊎◌, ap, ◌∙◌, refl, sym, inl, inr, arith}
+use Rattle.std.specs.List.{position}
 use Rattle.std.specs.Option.{option_map_or}
 use Rattle.std.proofs.lemmas.Bool.{cases_eq, eq-eqb, ne_eqb, lt-ltb, le-ltb, cond-true, cond-false, cond_both}
 use Rattle.std.proofs.lemmas.List.Sums.{prefix_len_is}

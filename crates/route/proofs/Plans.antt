@@ -1,14 +1,13 @@
 -- What the router leaves is a plan. Assumes nothing.
-use Rattle.std.proofs.Common.{◌≡◌, ℕ, ◌-◌, ◌<◌, Bool, true, false, cond, ◌&&◌, ltb, get_or, refl, ap, ◌∙◌}
-use Rattle.std.specs.Option.{option_map_or}
+use Rattle.std.proofs.Common.{◌≡◌, ℕ, ◌-◌, Bool, true, false, cond, ◌&&◌, ltb, get_or, refl, ◌∙◌}
 use Rattle.tariff.specs.Meaning.{Meaning, Lawful}
-use Rattle.plans.specs.Columns.{Card, Within, standing, row}
+use Rattle.plans.specs.Columns.{Card, Within}
 use Rattle.plans.specs.Tolls.{Plan, worth}
 use Rattle.plans.specs.Potentials.{TollsOf, columns_of}
 use Rattle.plans.proofs.Flows as Flows
 use Rattle.router.specs.declared.board.Board.{Board}
 use Rattle.router.specs.Boards.{Standing}
-use Rattle.router.specs.Tolls.{out_of, toll_of}
+use Rattle.router.specs.Tolls.{out_of}
 use Rattle.route.specs.Holds.{cell, Holds, flow_by, labels_by}
 use Rattle.route.specs.Told.{told}
 use Rattle.route.proofs.Places.{told_at}

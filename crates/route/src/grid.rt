@@ -61,28 +61,19 @@ fn entries<T: Tariff>(tariff: &T, row: u8) -> [u16; ROW]
     entries
 }
 
-// What links cost, by the cells from which they go.
+// What links cost, by the cells from which they go: left, straight, right.
 fn links<T: Tariff>(tariff: &T, rows: &[u8]) -> [[u16; 3]; CELLS]
+    requires { length rows.now ≤ 64 }
     ensures { (u : ℕ) → u < CELLS → slice_index_or result u [] ≡ links_from (T.meaning tariff.now) rows.now u }
 {
     let mut links = [[0; 3]; CELLS];
-    for u in 0..CELLS {
-        links[u] = links_from(tariff, rows, u);
+    for s in 1..rows.len() {
+        for place in 0..ROW {
+            let upper = Pe::at(rows[s - 1], place.saturating_sub(1) as u8);
+            links[(s - 1) * ROW + place] = links_to(tariff, upper, rows[s]);
+        }
     }
     links
-}
-
-// What the links from the cell `u` cost: left, straight, right.
-fn links_from<T: Tariff>(tariff: &T, rows: &[u8], u: usize) -> [u16; 3]
-    requires { u < CELLS }
-    ensures { result ≡ links_from (T.meaning tariff.now) rows.now u }
-{
-    let s = u / ROW;
-    if s + 1 >= rows.len() {
-        return [0; 3];
-    }
-    let column = (u % ROW).saturating_sub(1) as u8;
-    links_to(tariff, Pe::at(rows[s], column), rows[s + 1])
 }
 
 // What the links from a PE to a row cost. Left of column 0 there is none.

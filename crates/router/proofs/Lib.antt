@@ -1,5 +1,6 @@
 pub mod Sums
 pub mod Cells
+pub mod Descents
 pub mod Starts
 pub mod Begins
 pub mod Queues

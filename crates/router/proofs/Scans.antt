@@ -116,34 +116,34 @@ module _ {b : Board} {s : Search} (h : Begun b s) (u : ℕ) (waits : waits_of s 
     pub kept1 : Kept s1
     kept1 = itself kept l
 
-    module _ {s2 : Search} (l0 : Lowered s1 s2 (a + ROW - 1) (base + link 0)) where
+    module _ {s2 : Search} (l0 : Lowered s1 s2 (a + ROW + 1) (base + link 2)) where
       pub kept2 : Kept s2
-      kept2 = kept_below kept1 0 (omega arith) (omega arith) l0
+      kept2 = kept_below kept1 2 (omega arith) (omega arith) l0
 
-      module _ {s3 : Search} (l1 : Lowered s2 s3 (a + ROW) (base + link 1)) where
+      module _ {s3 : Search} (l1 : Lowered s2 s3 (a + ROW - 1) (base + link 0)) where
         pub kept3 : Kept s3
-        kept3 = kept_below kept2 1 (omega arith) (omega arith) l1
+        kept3 = kept_below kept2 0 (omega arith) (omega arith) l1
 
-        module _ {z : Search} (l2 : Lowered s3 z (a + ROW + 1) (base + link 2)) where
+        module _ {z : Search} (l2 : Lowered s3 z (a + ROW) (base + link 1)) where
           all_low : (w e : ℕ) → w + 1 ≡ a + ROW + e → e < 3 → label_of z w ≤ base + link e
           all_low w e at three = elim (cases_eq e 0) [
             | inl i ↦
                 let is : w ≡ a + ROW - 1 = omega arith in
-                omega (arith, ap (label_of z) is, ap link i, l0.low, l1.falls.labels (a + ROW - 1), l2.falls.labels (a + ROW - 1))
+                omega (arith, ap (label_of z) is, ap link i, l1.low, l2.falls.labels (a + ROW - 1))
             | inr n ↦ elim (cases_eq e 1) [
               | inl i ↦
                   let is : w ≡ a + ROW = omega arith in
-                  omega (arith, ap (label_of z) is, ap link i, l1.low, l2.falls.labels (a + ROW))
+                  omega (arith, ap (label_of z) is, ap link i, l2.low)
               | inr m ↦
                   let i : e ≡ 2 = omega arith in
                   let is : w ≡ a + ROW + 1 = omega arith in
-                  omega (arith, ap (label_of z) is, ap link i, l2.low)
+                  omega (arith, ap (label_of z) is, ap link i, l0.low, l1.falls.labels (a + ROW + 1), l2.falls.labels (a + ROW + 1))
             ]
           ]
 
           pub passed_on : Seeks b z → Passed z
           passed_on seeks = record {
-            kept = kept_below kept3 2 (omega arith) (omega arith) l2;
+            kept = kept_below kept3 1 (omega arith) (omega arith) l2;
             seeks = seeks;
             itself = omega (arith, l.low, l0.falls.labels a, l1.falls.labels a, l2.falls.labels a);
             below = λ w d. all_low w (w + 1 - (a + ROW)) (omega (arith, d.left)) (omega (arith, d.right));

@@ -2,3 +2,4 @@ pub mod Boards
 pub mod Searches
 pub mod Walking
 pub mod Tolls
+pub mod Descents

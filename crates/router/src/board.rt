@@ -3,6 +3,8 @@ ghost use Rattle.std.specs.Prelude.{◌≡◌, ◌<◌, slice_index};
 ghost use Rattle.flow.specs.Moves.{Opened, Linked, Dropped};
 ghost use Rattle.router.specs.Boards.{Shape, Standing, flow_of, onward};
 
+use crate::descent::{cheapest, descents};
+
 /// How many cells stand in a row: one for each of 64 columns, and one at either end that is never usable.
 pub const ROW: usize = 66;
 
@@ -67,7 +69,7 @@ impl Board {
         }
     }
 
-    /// No cell is used, and each label is 0.
+    /// No cell is used, and each label is as much below the exit's as it costs to come down.
     pub fn clear(&mut self)
         requires { Shape self.old.grid }
         ensures standing { Standing self.new }
@@ -75,11 +77,14 @@ impl Board {
     {
         self.ways.used = [false; CELLS];
         self.ways.charge = [0; CELLS];
+        let least = descents(&self.grid);
+        let exit = cheapest(&self.grid, &least);
+        self.labels.into = [0; CELLS];
+        self.labels.exit = exit;
         for u in 0..CELLS {
             self.ways.prev[u] = u as u16;
+            self.labels.into[u] = exit.saturating_sub(least[u]);
         }
-        self.labels.into = [0; CELLS];
-        self.labels.exit = 0;
     }
 }
 

@@ -5,6 +5,7 @@ ghost use Rattle.std.specs.Prelude.{◌≡◌};
 ghost use Rattle.router.specs.Boards.{Shape, Standing};
 
 pub mod board;
+mod descent;
 mod order;
 pub mod queue;
 pub mod search;

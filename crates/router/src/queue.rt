@@ -1,6 +1,6 @@
 //! A queue that suggests cells, about in the order of their keys. Nobody relies on what it suggests, so nothing is proved of it but
 //! that it stays within its bounds.
-const BUCKETS: usize = 2048;
+const BUCKETS: usize = 4096;
 
 /// Room for that many entries after each restart; more are forgotten.
 pub const ROOM: usize = 16_384;
@@ -53,7 +53,10 @@ impl Queue {
         self.older[entry] = self.newest[bucket];
         self.newest[bucket] = entry as u16;
         self.next = entry + 1;
-        self.lowest = self.lowest.min(bucket);
+        // not by `min`: it would write each time, and what is taken next would wait for it
+        if bucket < self.lowest {
+            self.lowest = bucket;
+        }
     }
 
     /// A cell of the lowest bucket that has an entry, if its key is below the limit.

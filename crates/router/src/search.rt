@@ -67,7 +67,7 @@ impl Search {
         }
     }
 
-    /// Begins a search: only labels of the first row are known.
+    /// Begins a search: only labels of the first row are known. The queue is still to be begun anew.
     pub fn begin(&mut self, board: &Board)
         requires { Standing board.now }
         ensures { Begun board.now self.new }
@@ -107,9 +107,10 @@ impl Search {
         self.lower(board, a, base, Why::Dropped);
         if a < board.grid.last {
             let links = board.grid.links[a];
+            // what is lowered last is scanned next: straight first
+            self.lower(board, a + ROW + 1, base + links[2] as u32, Why::Right);
             self.lower(board, a + ROW - 1, base + links[0] as u32, Why::Left);
             self.lower(board, a + ROW, base + links[1] as u32, Why::Straight);
-            self.lower(board, a + ROW + 1, base + links[2] as u32, Why::Right);
         }
         self.due[u] = NEVER;
     }
@@ -128,7 +129,6 @@ impl Search {
         }
         self.due = [NEVER; CELLS];
         self.rise = WORTH - board.labels.exit;
-        self.queue.restart(0);
     }
 
     // Enters at the cell `u` of the first row, where it is not used.

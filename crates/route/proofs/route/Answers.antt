@@ -1,10 +1,7 @@
-use Rattle.std.proofs.Common.{◌≡◌, ◌<◌, List, length, get_or, sum, sum_by, sym, ap, ◌∙◌, subst, arith}
+use Rattle.std.proofs.Common.{◌<◌, length, sym, ap, ◌∙◌, subst, arith}
 use Rattle.std.specs.List.{AllByRecursion}
 use Rattle.plans.specs.Columns.{GoingDown}
-use Rattle.plans.specs.Held.{at_each, held_row}
-use Rattle.routable.specs.Cards.{card_of}
 use Rattle.routable.proofs.Cards.{within}
-use Rattle.route.specs.Told.{columns, told}
 use Rattle.route.proofs.Makings as Makings
 use Rattle.route.proofs.route.Goals as goal
 

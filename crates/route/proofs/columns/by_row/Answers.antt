@@ -1,14 +1,13 @@
-use Rattle.std.proofs.Common.{◌≡◌, ◌+◌, ◌*◌, ◌<◌, ◌≤◌, map, length, get_or, inl, inr, sym, refl, ap, ◌∙◌, subst, arith, length-set}
+use Rattle.std.proofs.Common.{◌≡◌, ◌+◌, ◌*◌, ◌<◌, ◌≤◌, map, get_or, inl, inr, sym, refl, ap, ◌∙◌, subst, arith, length-set}
 use Rattle.std.specs.List.{AllByRecursion}
 use Rattle.std.proofs.ByRecursion.{All-weaker}
 use Rattle.std.proofs.lemmas.Bool.{cases_lt}
 use Rattle.std.proofs.lemmas.List.{get_or-replicate, get_or-set_other}
-use Rattle.plans.specs.declared.held.HeldRow.{HeldRow}
 use Rattle.plans.specs.Held.{held_row, no_row}
 use Rattle.plans.proofs.Holding.{at_each_filled}
 use Rattle.router.proofs.Cells.{at_set}
 use Rattle.route.specs.Told.{columns}
-use Rattle.route.proofs.Ways.{front, front-first, front_inside, front_next, row_shown, row_past}
+use Rattle.route.proofs.Ways.{front-first, front_inside, front_next, row_shown, row_past}
 use Rattle.route.proofs.columns.by_row.Goals as goal
 
 pub loop-s-init : goal.loop-s-init

@@ -1,6 +1,5 @@
-use Rattle.std.proofs.Common.{◌≡◌, ◌-◌, ◌*◌, cond, length, get_or, ap, ◌∙◌, arith}
+use Rattle.std.proofs.Common.{◌-◌, ◌*◌, cond, length, get_or, ap, ◌∙◌, arith}
 use Rattle.plans.specs.Tolls.{worth}
-use Rattle.plans.specs.Masked.{usable_rows}
 use Rattle.routable.specs.Cards.{card_of}
 use Rattle.routable.proofs.Cards.{within}
 use Rattle.route.specs.Grids.{has_pe, links_from}

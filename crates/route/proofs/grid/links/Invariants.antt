@@ -1,9 +1,9 @@
-use Rattle.std.proofs.Common.{◌≡◌, ℕ, ◌<◌, [], length, get_or}
-use Rattle.route.specs.Grids.{links_from}
+use Rattle.std.proofs.Common.{◌+◌, ◌-◌, ◌*◌}
+use Rattle.route.proofs.Links.{LaidTo}
 use Rattle.route.proofs.grid.links.Given as goal
 
-abbrev pub invariant-loop-u : goal.invariant-loop-u
-invariant-loop-u g l = record {
-  long : length l.links ≡ 4290;
-  done : (k : ℕ) → k < l.u → get_or l.links k [] ≡ links_from (g.T.Tariff.meaning l.tariff) l.rows k;
-}
+abbrev pub invariant-loop-s : goal.invariant-loop-s
+invariant-loop-s g l = LaidTo (g.T.Tariff.meaning l.tariff) l.rows l.links ((l.s - 1) * 66)
+
+abbrev pub invariant-loop-place : goal.invariant-loop-place
+invariant-loop-place g l = LaidTo (g.T.Tariff.meaning l.tariff) l.rows l.links ((l.s - 1) * 66 + l.place)

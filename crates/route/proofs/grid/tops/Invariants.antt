@@ -1,4 +1,4 @@
-use Rattle.std.proofs.Common.{◌≡◌, ℕ, ◌<◌, ◌≤◌, cond, length, get_or}
+use Rattle.std.proofs.Common.{◌≡◌, ℕ, ◌<◌, cond, length, get_or}
 use Rattle.plans.specs.Tolls.{worth}
 use Rattle.route.specs.Grids.{has_pe}
 use Rattle.route.proofs.grid.tops.Given as goal

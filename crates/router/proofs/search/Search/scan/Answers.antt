@@ -14,20 +14,20 @@ pub lower-requires-then-a-board-clause-offer : goal.lower-requires-then-a-board-
 lower-requires-then-a-board-clause-offer c =
     let h = c.requires.begun in
     let w = c.requires.waits in
-    Scans.offer_below h _ w (Scans.kept1 h _ w c.lower.ensures.lowered) 0 (omega arith) (omega arith) (ap below (omega arith))
+    Scans.offer_below h _ w (Scans.kept1 h _ w c.lower.ensures.lowered) 2 (omega arith) (omega arith) (ap below (omega arith))
 
 pub lower-requires-then-a-board-2-clause-offer : goal.lower-requires-then-a-board-2-clause-offer
 lower-requires-then-a-board-2-clause-offer c =
     let h = c.requires.begun in
     let w = c.requires.waits in
-    Scans.offer_below h _ w (Scans.kept2 h _ w c.lower.ensures.lowered c.lower-then-a-board.ensures.lowered) 1 (omega arith) (omega arith) (ap below (omega arith))
+    Scans.offer_below h _ w (Scans.kept2 h _ w c.lower.ensures.lowered c.lower-then-a-board.ensures.lowered) 0 (omega arith) (omega arith) (ap below (omega arith))
 
 pub lower-requires-then-a-board-3-clause-offer : goal.lower-requires-then-a-board-3-clause-offer
 lower-requires-then-a-board-3-clause-offer c =
     let h = c.requires.begun in
     let w = c.requires.waits in
     let k = Scans.kept3 h _ w c.lower.ensures.lowered c.lower-then-a-board.ensures.lowered c.lower-then-a-board-2.ensures.lowered in
-    Scans.offer_below h _ w k 2 (omega arith) (omega arith) (ap below (omega arith))
+    Scans.offer_below h _ w k 1 (omega arith) (omega arith) (ap below (omega arith))
 
 pub returns : goal.returns
 returns c =
