@@ -29,11 +29,11 @@ pub fn read<T>(card: &Card<T>, sheet: &[u8]) -> Result<Option<Plan>, AllocError>
         columns: Vec::new(card.alloc),
         tolls: Vec::new(card.alloc),
     };
-    if bytes.number(1) != Some(1) || !bytes.are_of_card(card) {
+    if bytes.byte() != Some(1) || !bytes.are_of_card(card) {
         return Ok(None);
     }
     for _ in sheet {
-        match bytes.number(1) {
+        match bytes.byte() {
             Some(2) if plan.tolls.is_empty() => plan.columns.push(bytes.column(card)?)?,
             Some(6) => match bytes.toll() {
                 None => break,
@@ -58,7 +58,7 @@ impl Bytes<'_> {
         Some(number)
     }
 
-    fn small(&mut self) -> Option<u8> {
+    fn byte(&mut self) -> Option<u8> {
         let (first, rest) = self.rest.split_first()?;
         self.rest = rest;
         Some(*first)
@@ -70,8 +70,8 @@ impl Bytes<'_> {
         for row in &card.rows {
             mask |= 1u64.checked_shl(u32::from(*row)).unwrap_or(0);
         }
-        self.small() == Some(card.map.size.rows())
-            && self.small() == Some(card.map.size.columns())
+        self.byte() == Some(card.map.size.rows())
+            && self.byte() == Some(card.map.size.columns())
             && self.number(8) == Some(mask)
     }
 
@@ -81,7 +81,7 @@ impl Bytes<'_> {
         let mut pes = Vec::new(card.alloc);
         let mut above: Option<u8> = None;
         for row in &card.rows {
-            let Some(byte) = self.small() else {
+            let Some(byte) = self.byte() else {
                 break;
             };
             let column = match above {
@@ -95,8 +95,8 @@ impl Bytes<'_> {
     }
 
     fn toll(&mut self) -> Option<Toll> {
-        let row = self.small()?;
-        let column = self.small()?;
+        let row = self.byte()?;
+        let column = self.byte()?;
         let amount = self.number(4)?;
         Some(Toll {
             pe: Pe::at(row, column),
