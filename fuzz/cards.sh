@@ -1,5 +1,5 @@
 #!/usr/bin/env bash
-# Compares our programs with the separate min-cost-flow program on very many random cards: fuzz/cards.sh [FIRST_SEED [SEEDS]]
+# Compares books with the separate program of crates/crosscheck on very many random cards: fuzz/cards.sh [FIRST_SEED [SEEDS]]
 # Where they differ, `target/bin/crosscheck SEED 1` compares on that one map again.
 set -euo pipefail
 cd "$(dirname "$0")/.."

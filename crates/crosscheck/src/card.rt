@@ -1,5 +1,5 @@
-//! A card as all programs here are asked about it: where columns can go, and what they cost.
-use host::Host;
+//! A card as the separate program is asked about it: where columns can go, and what they cost.
+use crate::map::Map;
 use std::alloc::{AllocError, Global};
 use tariff::Tariff;
 use tariff::pe::Pe;
@@ -7,23 +7,23 @@ use tariff::pe::Pe;
 #[derive(Drop)]
 pub struct Card<T> {
     pub alloc: Global,
-    pub host: Host,
+    pub map: Map,
     pub tariff: T,
     /// the standing rows, going down
     pub rows: Vec<u8>,
 }
 
 impl<T: Tariff + Drop> Card<T> {
-    pub fn new(alloc: Global, host: Host, tariff: T) -> Result<Card<T>, AllocError> {
+    pub fn new(alloc: Global, map: Map, tariff: T) -> Result<Card<T>, AllocError> {
         let mut rows = Vec::new(alloc);
-        for row in 0..host.size().rows() {
-            if host.is_standing(row) {
+        for row in 0..map.size.rows() {
+            if map.is_standing(row) {
                 rows.push(row)?;
             }
         }
         Ok(Card {
             alloc,
-            host,
+            map,
             tariff,
             rows,
         })
@@ -34,8 +34,8 @@ impl<T> Card<T> {
     /// The usable PEs of a row, from left to right.
     pub fn usable_pes(&self, row: u8) -> Result<Vec<Pe>, AllocError> {
         let mut pes = Vec::new(self.alloc);
-        for column in 0..self.host.size().columns() {
-            if self.host.is_usable(row, column) {
+        for column in 0..self.map.size.columns() {
+            if self.map.is_usable(row, column) {
                 pes.push(Pe::at(row, column))?;
             }
         }

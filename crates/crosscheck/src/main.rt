@@ -1,4 +1,4 @@
-//! Compares our programs with a separate min-cost-flow program, on random cards: crosscheck [FIRST_SEED [SEEDS]]
+//! Compares a book's answers with those of a separate program, on random cards: crosscheck [FIRST_SEED [SEEDS]]
 #![tactic(auto)]
 
 use crate::chance::Chance;
@@ -9,10 +9,14 @@ use crate::trouble::Trouble;
 use std::env;
 
 mod best;
+mod book_of;
 mod card;
 mod chance;
 mod columns;
 mod compare;
+mod greedily;
+mod lent;
+mod map;
 mod maps;
 mod network;
 mod ours;
@@ -23,6 +27,7 @@ mod tests;
 mod tolls;
 mod totals;
 mod trouble;
+mod written;
 
 fn main(rt: HostRuntime) -> Result<(), Trouble> {
     let mut words = env::args(&rt)?;

@@ -1,17 +1,17 @@
 //! Random maps of cards.
 use crate::chance::Chance;
-use host::Host;
+use crate::map::Map;
 use host::part::Part;
 use host::refusal::Refusal;
 use host::size::Size;
 
 /// Some faulty PEs, and now and then faulty switches and rows left out.
-pub fn random_map(chance: &mut Chance) -> Result<Host, Refusal> {
-    let mut host = Host::open(random_size(chance)?);
-    draw_pes(&mut host, chance)?;
-    break_switches(&mut host, chance);
-    leave_rows_out(&mut host, chance)?;
-    Ok(host)
+pub fn random_map(chance: &mut Chance) -> Result<Map, Refusal> {
+    let mut map = Map::healthy(random_size(chance)?);
+    spoil_pes(&mut map, chance);
+    spoil_switches(&mut map, chance);
+    leave_rows_out(&mut map, chance);
+    Ok(map)
 }
 
 /// Mostly small; now and then of any size, or as large as can be.
@@ -26,55 +26,54 @@ fn random_size(chance: &mut Chance) -> Result<Size, Refusal> {
 }
 
 /// 0 to 60 per cent of the PEs are faulty, more often few than many.
-fn draw_pes(host: &mut Host, chance: &mut Chance) -> Result<(), Refusal> {
-    let size = host.size();
+fn spoil_pes(map: &mut Map, chance: &mut Chance) {
     let most = chance.small(0, 60);
     let percent = chance.small(0, most);
-    for row in 0..size.rows() {
-        let mut text = [b'.'; 64];
-        for pe in text.iter_mut() {
+    for row in 0..map.size.rows() {
+        for column in 0..64 {
             if chance.happens(percent) {
-                *pe = b'X';
+                map.spoil(Part::Pe(row, column));
             }
         }
-        host.picture(row, &text[..usize::from(size.columns())])?;
     }
-    Ok(())
 }
 
 /// On half of the cards, a few row switches and some column switches.
-fn break_switches(host: &mut Host, chance: &mut Chance) {
+fn spoil_switches(map: &mut Map, chance: &mut Chance) {
     if chance.happens(50) {
         return;
     }
-    // A switch that the card does not have is refused, with nothing changed.
+    // At some of these places the card has no switch.
     for _ in 0..chance.small(0, 2) {
-        let (row, column) = random_place(host.size(), chance);
-        let _ = host.mark(Part::RowSwitch(row, column), 1);
+        let (row, column) = random_place(map.size, chance);
+        map.spoil(Part::RowSwitch(row, column));
     }
     for _ in 0..chance.small(0, 6) {
-        let (row, column) = random_place(host.size(), chance);
-        let _ = host.mark(Part::ColumnSwitch(row, column), 1);
+        let (row, column) = random_place(map.size, chance);
+        map.spoil(Part::ColumnSwitch(row, column));
     }
 }
 
 fn random_place(size: Size, chance: &mut Chance) -> (u8, u8) {
     (
-        chance.small(0, size.rows() - 1),
+        random_row(size, chance),
         chance.small(0, size.columns() - 1),
     )
 }
 
+pub fn random_row(size: Size, chance: &mut Chance) -> u8 {
+    chance.small(0, size.rows() - 1)
+}
+
 /// On half of the cards, up to half of the rows.
-fn leave_rows_out(host: &mut Host, chance: &mut Chance) -> Result<(), Refusal> {
+fn leave_rows_out(map: &mut Map, chance: &mut Chance) {
     if chance.happens(50) {
-        return Ok(());
+        return;
     }
     let percent = chance.small(0, 50);
-    for row in 0..host.size().rows() {
+    for row in 0..map.size.rows() {
         if chance.happens(percent) {
-            host.choose(row, 0)?;
+            map.leave_out(row);
         }
     }
-    Ok(())
 }

@@ -1,54 +1,49 @@
-//! The tolls that a plan holds: whether they support its family.
+//! The tolls of a plan: whether they support its family.
 use crate::best::Answer;
 use crate::card::{Card, is_near};
-use plans::held::HeldPlan;
+use crate::written::Toll;
 use std::alloc::AllocError;
 use tariff::Tariff;
 use tariff::pe::Pe;
 
 /// What a column is worth.
-pub const WORTH: u32 = 5_000_000;
+pub const WORTH: u64 = 5_000_000;
 
 /// Whether tolls lie where they may, no column is priced below the worth, and they add up for a family as told.
 pub fn support<T: Tariff>(
     card: &Card<T>,
-    plan: &HeldPlan,
+    tolls: &[Toll],
     told: Answer,
 ) -> Result<bool, AllocError> {
-    let worth = u64::from(WORTH);
-    let least = least_price(card, plan)?;
+    let least = least_price(card, tolls)?;
     Ok(
-        are_placed(card, plan)
-            && least.is_none_or(|price| price >= worth)
-            && sum(plan).saturating_add(u64::from(told.charge))
-                == worth.saturating_mul(u64::from(told.columns)),
+        are_placed(card, tolls)
+            && least.is_none_or(|price| price >= WORTH)
+            && sum(tolls).saturating_add(u64::from(told.charge))
+                == WORTH.saturating_mul(u64::from(told.columns)),
     )
 }
 
-/// Whether tolls lie on usable PEs of standing rows alone, and none is above the worth.
-fn are_placed<T: Tariff>(card: &Card<T>, plan: &HeldPlan) -> bool {
-    (0..64).all(|row| {
-        (0..64).all(|column| {
-            let toll = toll(plan, Pe::at(row, column));
-            toll == 0
-                || toll <= WORTH && card.host.is_standing(row) && card.host.is_usable(row, column)
-        })
-    })
+/// Whether tolls are 1 to the worth, on usable PEs of standing rows, by row, then by column.
+fn are_placed<T: Tariff>(card: &Card<T>, tolls: &[Toll]) -> bool {
+    tolls.iter().all(|toll| {
+        (1..=WORTH).contains(&toll.amount)
+            && card.map.is_standing(toll.pe.row)
+            && card.map.is_usable(toll.pe.row, toll.pe.column)
+    }) && tolls
+        .iter()
+        .zip(tolls.iter().skip(1))
+        .all(|(one, next)| is_before(one.pe, next.pe))
 }
 
-fn toll(plan: &HeldPlan, pe: Pe) -> u32 {
-    match plan.tolls.get(usize::from(pe.row)) {
-        None => 0,
-        Some(row) => row.get(usize::from(pe.column)).copied().unwrap_or(0),
-    }
+fn is_before(one: Pe, next: Pe) -> bool {
+    one.row < next.row || one.row == next.row && one.column < next.column
 }
 
-fn sum(plan: &HeldPlan) -> u64 {
+fn sum(tolls: &[Toll]) -> u64 {
     let mut sum = 0u64;
-    for row in &plan.tolls {
-        for toll in row {
-            sum = sum.saturating_add(u64::from(*toll));
-        }
+    for toll in tolls {
+        sum = sum.saturating_add(toll.amount);
     }
     sum
 }
@@ -61,10 +56,10 @@ struct Priced {
 }
 
 /// The least price of a logical column, if there is one; the rows are priced from the last one up.
-fn least_price<T: Tariff>(card: &Card<T>, plan: &HeldPlan) -> Result<Option<u64>, AllocError> {
+fn least_price<T: Tariff>(card: &Card<T>, tolls: &[Toll]) -> Result<Option<u64>, AllocError> {
     let mut below = None;
     for row in card.rows.iter().rev() {
-        below = Some(priced_row(card, plan, *row, below)?);
+        below = Some(priced_row(card, tolls, *row, below)?);
     }
     let mut least = None;
     if let Some(first) = below {
@@ -79,7 +74,7 @@ fn least_price<T: Tariff>(card: &Card<T>, plan: &HeldPlan) -> Result<Option<u64>
 /// Prices the PEs of a row from which the last row can be come to.
 fn priced_row<T: Tariff>(
     card: &Card<T>,
-    plan: &HeldPlan,
+    tolls: &[Toll],
     row: u8,
     below: Option<Vec<Priced>>,
 ) -> Result<Vec<Priced>, AllocError> {
@@ -90,11 +85,18 @@ fn priced_row<T: Tariff>(
             Some(below) => cheapest_link(card, *pe, below),
         };
         if let Some(onward) = onward {
-            let price = onward.saturating_add(u64::from(toll(plan, *pe)));
+            let price = onward.saturating_add(toll_at(tolls, *pe));
             priced.push(Priced { pe: *pe, price })?;
         }
     }
     Ok(priced)
+}
+
+fn toll_at(tolls: &[Toll], pe: Pe) -> u64 {
+    match tolls.iter().find(|toll| toll.pe == pe) {
+        None => 0,
+        Some(toll) => toll.amount,
+    }
 }
 
 /// The least price of going on from a PE.

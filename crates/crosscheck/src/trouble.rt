@@ -6,8 +6,10 @@ use std::io;
 pub enum Trouble {
     /// memory, input or output
     Io(io::Error),
-    /// a card's map refused a call
-    Card(host::refusal::Refusal),
+    /// a size was refused
+    Size(host::refusal::Refusal),
+    /// a book refused to be given its map
+    Book(book::refusal::Refusal),
     /// a tariff refused a call
     Tariff(tariff::Refusal),
     /// a word that should be a number is none
@@ -28,7 +30,13 @@ impl From<io::Error> for Trouble {
 
 impl From<host::refusal::Refusal> for Trouble {
     fn from(x: host::refusal::Refusal) -> Trouble {
-        Trouble::Card(x)
+        Trouble::Size(x)
+    }
+}
+
+impl From<book::refusal::Refusal> for Trouble {
+    fn from(x: book::refusal::Refusal) -> Trouble {
+        Trouble::Book(x)
     }
 }
 
