@@ -1,9 +1,8 @@
 // Compares the listing call for C, and the harvest program, with the listing written from docs/ alone, on random jobs, whole and damaged.
 //
-//     fuzz-jobs [--without-plans] PROGRAM [JOBS [SEED]]
+//     fuzz-jobs PROGRAM [JOBS [SEED]]
 //
 // Each job is made from a seed of its own, SEED and up, so one that differs is run again by `fuzz-jobs PROGRAM 1 ITS_SEED`.
-// --without-plans: routes (15) and judgements (17) are taken for unknown kinds.
 #include "listing.hpp"
 #include <csignal>
 #include <cstdio>
@@ -168,8 +167,8 @@ private:
         marks(way == 2 ? 1 : 4);
         Bytes again(job.begin() + long(opened), job.end());
         if (way == 3)
-            again = {uint8_t(plans_known && chance.once_in(2) ? ROUTE : GREEDY)};
-        if (way == 4 && plans_known) {
+            again = {uint8_t(chance.once_in(2) ? ROUTE : GREEDY)};
+        if (way == 4) {
             job.push_back(JUDGE);
             again = chance.one_of<Bytes>({{END, JUDGE}, {STRAIGHT}, {START, 1, STRAIGHT}, {TOLL, 0, 0, 0, 76, 75, 64}});
         }
@@ -215,8 +214,8 @@ private:
     void question()
     {
         int kind = chance.one_of<int>({GREEDY, GREEDY, ROUTE, ROUTE, JUDGE, JUDGE, JUDGE});
-        job.push_back(uint8_t(plans_known ? kind : GREEDY));
-        if (!plans_known || kind != JUDGE)
+        job.push_back(uint8_t(kind));
+        if (kind != JUDGE)
             return;
         if (last_sheet.empty() || !chance.once_in(6)) // else one that was good before the last marks
             last_sheet = good_sheet(chance, card, Grid(card));
@@ -496,19 +495,15 @@ void broken_off(int signal)
 
 int main(int count, char **words)
 {
-    bool without_plans = count > 1 && std::string(words[1]) == "--without-plans";
-    char **more = words + 1 + without_plans;
-    count -= 1 + without_plans;
-    if (count < 1)
-        return std::fprintf(stderr, "usage: fuzz-jobs [--without-plans] PROGRAM [JOBS [SEED]]\n"), 2;
-    uint64_t jobs = count > 1 ? std::strtoull(more[1], nullptr, 10) : 10000;
-    uint64_t seed = count > 2 ? std::strtoull(more[2], nullptr, 10) : 1;
+    if (count < 2)
+        return std::fprintf(stderr, "usage: fuzz-jobs PROGRAM [JOBS [SEED]]\n"), 2;
+    uint64_t jobs = count > 2 ? std::strtoull(words[2], nullptr, 10) : 10000;
+    uint64_t seed = count > 3 ? std::strtoull(words[3], nullptr, 10) : 1;
     for (int signal : {SIGSEGV, SIGBUS, SIGILL, SIGFPE, SIGABRT})
         std::signal(signal, broken_off);
 
     test_worked_cards(), test_refusals(), test_plans();
     std::memset(told, 0, sizeof told);
-    plans_known = !without_plans;
     time_t last = std::time(nullptr);
     for (seed_now = seed; seed_now < seed + jobs; ++seed_now) {
         if (std::time(nullptr) >= last + 30) {
@@ -516,7 +511,7 @@ int main(int count, char **words)
             std::printf("%lu jobs of %lu from seed %lu\n", (unsigned long)(seed_now - seed), (unsigned long)jobs, (unsigned long)seed);
             std::fflush(stdout);
         }
-        compare(more[0]);
+        compare(words[1]);
     }
     print_told();
     print_times();

@@ -14,8 +14,6 @@ constexpr int64_t WORTH = 5000000;
 enum JobKind { SIZE = 0x10, PE, ROW_SWITCH, COLUMN_SWITCH, CHOOSE, ROUTE, GREEDY, JUDGE };
 enum SheetKind { HEAD = 1, START, LEFT, STRAIGHT, RIGHT, TOLL, END };
 
-inline bool plans_known = true; // else routes and judgements are unknown kinds
-
 // ---- The card: docs/card.md
 
 struct Card {
@@ -425,7 +423,7 @@ private:
 inline int job_body(int kind)
 {
     static const int LENGTHS[] = {2, 3, 3, 3, 2, 0, 0, 0};
-    bool known = kind >= SIZE && kind <= JUDGE && (plans_known || (kind != ROUTE && kind != JUDGE));
+    bool known = kind >= SIZE && kind <= JUDGE;
     return known ? LENGTHS[kind - SIZE] : -1;
 }
 
