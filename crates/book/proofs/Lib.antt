@@ -6,3 +6,5 @@ mod Rowless
 pub mod Lengths
 mod Judged
 pub mod Routes
+pub mod Verdicts
+pub mod Holds

@@ -1,5 +1,5 @@
 -- What a route answers on a map. Assumes nothing.
-use Rattle.std.proofs.Common.{◌≡◌, ℕ, ◌≤◌, Bool, true, false, List, length, Ok, Err, Result, MatchBool, sym, ap, ap₂, ◌∙◌, arith}
+use Rattle.std.proofs.Common.{◌≡◌, ℕ, Bool, true, false, List, length, Ok, Err, Result, MatchBool, sym, ap, ap₂, ◌∙◌, arith}
 use Rattle.host.specs.declared.Host.{Host}
 use Rattle.tariff.specs.Meaning.{Meaning, Lawful}
 use Rattle.plans.specs.Columns.{Card}

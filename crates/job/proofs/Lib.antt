@@ -4,3 +4,4 @@ mod Listings
 mod Told
 mod Midway
 mod Fitted
+mod Links

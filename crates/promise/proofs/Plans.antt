@@ -1,7 +1,6 @@
 -- A plan that a book holds. Assumes nothing.
-use Rattle.std.proofs.Common.{◌≡◌, ℕ, zero, suc, ◌<◌, ◌≤◌, ◌↔◌, Bool, true, false, cond, List, [], ◌∷◌, length, get_or, Ok, Err, Result, IsOk, is_ok, sym, refl, ap, ◌∙◌, subst, inl, inr, ⊎_elim, arith}
-use Rattle.std.specs.Result.{result_map_both}
-use Rattle.std.proofs.lemmas.Bool.{cases_lt, cases_eq, ne_eqb, eqb-false, cond-false}
+use Rattle.std.proofs.Common.{◌≡◌, ℕ, zero, suc, ◌<◌, ◌≤◌, ◌↔◌, List, [], ◌∷◌, length, get_or, Ok, Err, Result, IsOk, is_ok, sym, refl, ap, ◌∙◌, subst, inl, inr, ⊎_elim, arith}
+use Rattle.std.proofs.lemmas.Bool.{cases_lt}
 use Rattle.std.proofs.lemmas.List.{get_or_past}
 use Rattle.host.specs.declared.Host.{Host}
 use Rattle.tariff.specs.Meaning.{Meaning, Lawful}
@@ -13,8 +12,7 @@ use Rattle.plans.proofs.Crossings as Crossings
 use Rattle.plans.proofs.Holding as Holding
 use Rattle.routable.specs.Cards.{card_of}
 use Rattle.routable.proofs.Cards.{within}
-use Rattle.verdict.specs.declared.fault.JudgeFault.{JudgeFault}
-use Rattle.verdict.specs.Judging.{Accepted, judged, toll_of}
+use Rattle.verdict.specs.Judging.{Accepted, toll_of}
 use Rattle.verdict.specs.Sheets.{sheet_of}
 use Rattle.verdict.specs.Theorems.{Bytes, LeftToRight, ByFirst, SheetOfPlan}
 use Rattle.verdict.proofs.Hosts.{low_rows, narrow}
@@ -23,10 +21,9 @@ use Rattle.verdict.proofs.Lists.{In, all_in, in_place}
 use Rattle.verdict.proofs.Sound.{Sound, sound_plan}
 use Rattle.verdict.proofs.TollLists.{supports_same}
 use Rattle.book.specs.declared.Book.{Book}
-use Rattle.book.specs.declared.refusal.Refusal.TheVariants.{NoRow, Judge}
 use Rattle.book.specs.Books.{counts, holding}
-use Rattle.book.specs.Calls.{rowless}
 use Rattle.book.specs.Plans.{verdict}
+use Rattle.book.proofs.Verdicts.{accepts, accepted}
 use Rattle.promise.specs.Promise.{HoldsPlan}
 
 -- past its last column a row has no toll
@@ -83,33 +80,15 @@ holds b m toll f plan ordered =
       counted = ap (counts b.host m) columns;
     }
 
--- where a row stands there is no refusal for want of one, and a sheet is taken as it is judged
-taken : (b : Bool) (r : Result Accepted JudgeFault) (a : Accepted) → cond b (Err NoRow) (result_map_both (λ x. x) Judge r) ≡ Ok a → (b ≡ false) × (r ≡ Ok a)
-taken true r a e = cc
-taken false (Ok x) a e = (refl, cc)
-taken false (Err x) a e = cc
-
 module _ (h : Host) (m : Meaning) where
-  stood : rowless h ≡ false → 0 < standing (card_of h)
-  stood e = ⊎_elim (λ none. absurd (eqb-false (standing (card_of h)) 0 e none)) (λ some. omega arith) (cases_eq (standing (card_of h)) 0)
-
-  pub some_row : 0 < standing (card_of h) → rowless h ≡ false
-  some_row l = ne_eqb (standing (card_of h)) 0 (λ e. omega arith)
-
-  accepts : (bytes : List ℕ) (a : Accepted) → verdict h m bytes ≡ Ok a → (0 < standing (card_of h)) × (judged h m bytes ≡ Ok a)
-  accepts bytes a e = let t = taken (rowless h) (judged h m bytes) a e in (stood t.0, t.1)
-
-  accepted : (bytes : List ℕ) (a : Accepted) → 0 < standing (card_of h) → judged h m bytes ≡ Ok a → verdict h m bytes ≡ Ok a
-  accepted bytes a l e = cond-false (rowless h) (Err NoRow) _ (some_row l) ∙ ap (result_map_both (λ x. x) Judge) e
-
   -- what is accepted is a plan
   pub sound : (bytes : List ℕ) (a : Accepted) → verdict h m bytes ≡ Ok a → Sound h m bytes a
-  sound bytes a e = let t = accepts bytes a e in sound_plan h m bytes a t.0 t.1
+  sound bytes a e = let t = accepts h m bytes a e in sound_plan h m bytes a t.0 t.1
 
   pub judge_accepts : (bytes : List ℕ) (a : Accepted) → Bytes bytes → (verdict h m bytes ≡ Ok a) ↔ SheetOfPlan h m bytes a
   judge_accepts bytes a u = (
-    λ e. let t = accepts bytes a e in (Sheets.is_plan h m bytes a t.0 u).0 t.1,
-    λ s. accepted bytes a s.plan.family.stands ((Sheets.is_plan h m bytes a s.plan.family.stands u).1 s),
+    λ e. let t = accepts h m bytes a e in (Sheets.is_plan h m bytes a t.0 u).0 t.1,
+    λ s. accepted h m bytes a s.plan.family.stands ((Sheets.is_plan h m bytes a s.plan.family.stands u).1 s),
   )
 
   module _ (lawful : Lawful m) where
@@ -124,6 +103,6 @@ module _ (h : Host) (m : Meaning) where
         IsOk (verdict h m (sheet_of h g toll)) ↔ Best (card_of h) m g
     tolls_tell toll f g plan family firsts =
         let law = Sheets.of_best h m toll f g lawful plan.allowed plan.family plan.supports family firsts in (
-          λ ok. let a = ok_value (verdict h m (sheet_of h g toll)) ok in law.0 (a.0, (accepts (sheet_of h g toll) a.0 a.1).1),
-          λ best. let a = law.1 best in ap is_ok (accepted (sheet_of h g toll) a.0 family.stands a.1),
+          λ ok. let a = ok_value (verdict h m (sheet_of h g toll)) ok in law.0 (a.0, (accepts h m (sheet_of h g toll) a.0 a.1).1),
+          λ best. let a = law.1 best in ap is_ok (accepted h m (sheet_of h g toll) a.0 family.stands a.1),
         )

@@ -12,6 +12,7 @@ loop-kind-init c =
     let same : c.args.job.now ≡ c.into_iter-kind-iterator.result.0.now = cc in (
       omega (arith, length_entries c.into_iter-kind-iterator.result.0.now, ap length same, c.requires),
       subst (λ job. Midway c.args.job.now c.args.page.now c.args.page.now 0 None (entries job)) same (begins c.args.job.now c.args.page.now),
+      tt,
     )
 
 pub loop-kind-preserved : goal.loop-kind-preserved
@@ -25,6 +26,7 @@ loop-kind-preserved c =
       omega (arith, c.loop-kind.invariant.0, ap length step, c.lay-used.ensures.behind, c.deref.ensures.1),
       subst (λ map. Midway c.args.job.now c.args.page.now c.lay-used.new.page c.lay-used.result map left) (sym c.apply-reply.ensures.map)
           (laid_more e c.apply-reply.result left _ step c.apply-reply.ensures.answer l c.loop-kind.invariant.1),
+      c.apply-reply.ensures.holds,
     )
 
 pub returns : goal.returns
