@@ -1,7 +1,6 @@
 //! A map, with what a judge asks of it at every record drawn out once.
 ghost use Rattle.std.specs.Prelude.{◌≡◌, not};
 ghost use Rattle.masks.specs.Masks.{bit, mask};
-ghost use Rattle.masks.specs.Members.{members};
 ghost use Rattle.host.specs.Maps.{usable, stands};
 ghost use Rattle.host.specs.Refusals.{refuse, answered};
 ghost use Rattle.routable.specs.Cards.{card_of};
@@ -10,7 +9,7 @@ ghost use Rattle.judge.specs.Charts.{usable_table};
 
 use arrayvec::ArrayVec;
 use host::Host;
-use masks::iter::Members;
+use routable::standing_rows;
 use sheet::record::Head;
 use tariff::pe::Pe;
 use verdict::fault::CardFault;
@@ -34,11 +33,10 @@ impl Chart<'_> {
     pub fn of(host: &Host) -> Chart<'_>
         ensures { result.host.now ≡ host.now }
     {
-        let standing = host.standing();
         Chart {
             host,
-            standing,
-            rows: listed(standing),
+            standing: host.standing(),
+            rows: standing_rows(host),
             usable: usable_by_row(host),
         }
     }
@@ -71,17 +69,6 @@ impl Chart<'_> {
     {
         masks::has(self.standing, row)
     }
-}
-
-/// The rows that a mask names, going down.
-fn listed(standing: u64) -> ArrayVec<u8, 64>
-    ensures { result.items ≡ members (bit standing) }
-{
-    let mut rows = ArrayVec::new();
-    for row in Members::of(standing) {
-        rows.push(row);
-    }
-    rows
 }
 
 /// The usable PEs of each row.
