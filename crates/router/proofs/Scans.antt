@@ -42,9 +42,6 @@ module _ {b : Board} {s : Search} (h : Begun b s) (u : ℕ) (waits : waits_of s 
   bears : Bears N F a u gap
   bears = Bearing.bears_prev law h.seeks.standing.fits.flow u usable (h.seeks.seeking.waiting u waits).1 (λ x. x)
 
-  pub a_inside : a + ROW + 1 < CELLS
-  a_inside = omega (arith, within h.seeks.standing.shape bears.from)
-
   -- the label below a is not negative
   pub enough : gap ≤ label_of s u
   enough = omega (arith, h.seeks.seeking.above u, Bearing.bears_low h.seeks.standing.fits.labels bears)

@@ -1,7 +1,6 @@
 -- The bytes of a sheet, and how many they are. Assumes nothing.
 use Rattle.std.proofs.Common.{◌≡◌, ℕ, zero, suc, ◌+◌, ◌*◌, ◌<◌, ◌≤◌, cond, ltb, List, [], ◌∷◌, ◌++◌, map, length, refl, suc-mul, mul-le-mul, arith, length-append}
 use Rattle.std.specs.List.{flat_map, AllByRecursion}
-use Rattle.std.proofs.ByRecursion.{All-append}
 use Rattle.std.proofs.lemmas.Bool.{cond_both}
 use Rattle.plans.specs.Columns.{Card, Column, standing}
 use Rattle.plans.specs.Families.{total}
@@ -16,16 +15,10 @@ use Rattle.sheet.specs.declared.record.Step.{Step}
 use Rattle.sheet.specs.declared.record.Step.TheVariants.{Left, Straight, Right}
 use Rattle.sheet.specs.declared.record.Toll.{Toll}
 use Rattle.sheet.specs.Records.{bytes, size, all_bytes}
-use Rattle.sheet.specs.Runs.{Fits}
 use Rattle.sheet.proofs.Bodies.{length_bytes}
-use Rattle.sheet.proofs.Bodies.{bytes_under}
 use Rattle.verdict.specs.Sheets.{step_to, steps, column_records, toll_at, tolls_across, tolls_down, toll_list, records}
-use Rattle.verdict.specs.Theorems.{Bytes, SheetsAreShort}
+use Rattle.verdict.specs.Theorems.{SheetsAreShort}
 use Rattle.verdict.proofs.Lists.{total_append}
-
-pub written-bytes : (xs : List Record) → AllByRecursion Fits xs → Bytes (all_bytes xs)
-written-bytes [] f = tt
-written-bytes (x ∷ xs) f = All-append (λ b. b < 256) (bytes x) (all_bytes xs) (bytes_under x f.0) (written-bytes xs f.1)
 
 pub length_all : (xs : List Record) → length (all_bytes xs) ≡ total size xs
 length_all [] = refl
