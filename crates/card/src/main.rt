@@ -1,8 +1,9 @@
 //! Reads a drawn card from standard input, and tells what it carries.
 #![tactic(auto)]
 
+use std::alloc::Global;
 use std::io;
-use std::io::Read;
+use std::io::{Read, Write};
 
 mod advice;
 mod asking;
@@ -20,7 +21,12 @@ mod words;
 const ENOUGH: u64 = 4161;
 
 fn main(rt: HostRuntime) -> io::Result<()> {
-    let mut text = Vec::new(rt.alloc());
-    rt.stdin().take(ENOUGH).read_to_end(&mut text)?;
-    report::report(rt.alloc(), &mut rt.stdout(), &text)
+    answer(rt.alloc(), rt.stdin(), &mut rt.stdout())
+}
+
+/// Reads a drawing, and tells what its card carries.
+fn answer<R: Read + Drop, W: Write>(alloc: Global, input: R, out: &mut W) -> io::Result<()> {
+    let mut text = Vec::new(alloc);
+    input.take(ENOUGH).read_to_end(&mut text)?;
+    report::report(alloc, out, &text)
 }

@@ -1,11 +1,10 @@
 //! Small drawings, and what is told of them, worked out by hand.
-use crate::canvas;
-use crate::report::report;
+use crate::{answer, canvas};
 use std::test::Fail;
 
 fn told(rt: &HostRuntime, text: &[u8]) -> Result<String, Fail> {
     let mut out = Vec::new(rt.alloc());
-    report(rt.alloc(), &mut out, text)?;
+    answer(rt.alloc(), text, &mut out)?;
     Ok(String::from_utf8(out)?)
 }
 
@@ -67,6 +66,29 @@ XX
 01
 sheet of ";
     assert!(rt; told(&rt, b"..\nXX\n..\n")?.starts_with(front));
+    Ok(())
+}
+
+// Without row 1 there are three columns, but of one PE each.
+#[test]
+fn no_row_is_left_out_for_more_columns_of_fewer_pes(rt: HostRuntime) -> Result<(), Fail> {
+    let front = "2 rows, 3 columns
+all rows: 2 columns, total 8
+PE (1, 1) repaired: 3 columns, total 7
+greedy: 2 columns, total 8
+";
+    assert!(rt; told(&rt, b"...\n.X.\n")?.starts_with(front));
+    Ok(())
+}
+
+// 64 lines of 64 characters are the longest drawing.
+#[test]
+fn a_character_behind_the_longest_drawing_is_read(rt: HostRuntime) -> Result<(), Fail> {
+    let mut text = [b'.'; 4161];
+    for row in 1..65 {
+        text[65 * row - 1] = b'\n';
+    }
+    assert_eq!(rt; told(&rt, &text)?.as_str(), "no 1\n");
     Ok(())
 }
 
