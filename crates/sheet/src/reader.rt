@@ -9,6 +9,18 @@ use crate::record::{Kind, Record};
 use crate::state::State;
 use records::record_at;
 
+impl State {
+    /// The state after a record, if it may come here.
+    pub fn after(self, next: Record) -> Option<State>
+        ensures { result ≡ turn self next }
+    {
+        // a reader's turn, whatever its place
+        let mut reader = Reader { state: self, at: 0 };
+        reader.turn(next)?;
+        Some(reader.state)
+    }
+}
+
 /// Where a reader is: what has come, and the place of the next record.
 // The sheet is given at each call, as a writer is given its buffer: it may have grown, and no borrow lasts.
 // No iterator: a fault leaves it where it was, so it would give that fault for ever.
