@@ -1,5 +1,5 @@
 -- Laws of whole listings. Assumes nothing.
-use Rattle.std.specs.Prelude.{◌≡◌, ℕ, List, [], ◌∷◌, ◌++◌, length, map, None, Ok, Err, Option}
+use Rattle.std.specs.Prelude.{◌≡◌, ℕ, List, [], ◌∷◌, ◌++◌, length, map, None, Ok, Err, Option, Result}
 use Rattle.std.specs.List.{AllByRecursion, flat_map}
 use Rattle.host.specs.declared.Host.{Host}
 use Rattle.host.specs.declared.part.Part.TheVariants.{Pe, RowSwitch, ColumnSwitch}
@@ -44,6 +44,11 @@ Closed _ = Unit {0}
 abbrev pub Entry : Type 0
 Entry = e.Entry (List ℕ)
 
+-- all but a route, for which any best family will do, is answered in one way
+abbrev pub Fixed : Result Asked Refusal → Type 0
+Fixed (Ok (Call Route)) = ⊥
+Fixed _ = Unit {0}
+
 -- a record that is read whole
 abbrev pub whole : Asked → Entry
 whole r = record { kind = kind r; content = Ok r }
@@ -62,14 +67,25 @@ pub record Laws : Type 0 where
   pub fault_last : (job : List ℕ) (es fs : List Entry) (e : Entry) (x : Refusal) → entries job ≡ es ++ e ∷ fs → e.content ≡ Err x → fs ≡ []
   -- a job has one listing
   pub one_listing : (job listing other : List ℕ) → Listing job listing → Listing job other → listing ≡ other
+  -- from whichever map, entries have one list of lines
+  pub one_list : (before : Option Host) (es : List Entry) (ls ms : List Line) → Lines before es ls → Lines before es ms → ls ≡ ms
+  -- and where each is answered in one way, they have it
+  pub some_list : (before : Option Host) (es : List Entry) → AllByRecursion (λ (e : Entry). Fixed e.content) es → (ls : List Line) × Lines before es ls
   -- one line for each entry, with its kind
   pub one_each : (before : Option Host) (es : List Entry) (ls : List Line) → Lines before es ls → map (λ (l : Line). l.kind) ls ≡ map (λ (e : Entry). e.kind) es
   -- lines depend only on the entries up to them
   pub in_order : (before : Option Host) (es fs : List Entry) (ls ms : List Line) → Lines before es ls → Lines (map_left before es) fs ms → Lines before (es ++ fs) (ls ++ ms)
+  pub comes_apart : (before : Option Host) (es fs : List Entry) (ns : List Line) → Lines before (es ++ fs) ns →
+      (ls : List Line) × (ms : List Line) × Lines before es ls × Lines (map_left before es) fs ms × (ns ≡ ls ++ ms)
   -- a refused entry changes no later line
   pub refused_silent : (before : Option Host) (es fs : List Entry) (e : Entry) (x : Refusal) (ls ms : List Line) →
       Lines before es ls → Lines (map_left before es) fs ms → Replied (map_left before es) e.content (Err x) →
       Lines before (es ++ e ∷ fs) (ls ++ line e.kind (Err x) ∷ ms)
+  pub refused_apart : (before : Option Host) (es fs : List Entry) (e : Entry) (x : Refusal) (ns : List Line) →
+      Replied (map_left before es) e.content (Err x) → Lines before (es ++ e ∷ fs) ns →
+      (ls : List Line) × (ms : List Line) × Lines before es ls × Lines (map_left before es) fs ms × (ns ≡ ls ++ line e.kind (Err x) ∷ ms)
   -- the listing of a longer job begins with the listing of the shorter
   pub prefix : (rs : List Asked) (more listing told : List ℕ) → AllByRecursion Closed rs → Listing (bytes rs) listing → Told (map_left None (map whole rs)) (entries more) told →
       Listing (bytes rs ++ more) (listing ++ told)
+  pub begins : (rs : List Asked) (more shorter longer : List ℕ) → AllByRecursion Closed rs → Listing (bytes rs) shorter → Listing (bytes rs ++ more) longer →
+      (told : List ℕ) × Told (map_left None (map whole rs)) (entries more) told × (longer ≡ shorter ++ told)
