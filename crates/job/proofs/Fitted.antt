@@ -21,12 +21,17 @@ module _ (job buffer : List ℕ) (short : length job ≤ 60000) where
       (sym (le-ltb 60000 (length job) short))
       (text, lists, (ap Ok long ∙ sym (cond-false _ _ _ (le-ltb (length buffer) (length text) room)), is))
 
+  -- what was laid over a buffer that has room for it is a listing in place
+  pub in_place : (after : List ℕ) {n : ℕ} → Laying job buffer after n → n ≤ length buffer → Answered job buffer (Ok n) after
+  in_place after {n = n} a room =
+      let fits : length a.text ≤ length buffer = omega (arith, a.laid.behind, room) in
+      answered a.text after n a.lists (omega (arith, a.laid.behind)) fits (a.laid.over ∙ overlaid_front buffer a.text fits)
+
   -- what was first laid over a page, and then once more over the buffer, is one listing
   pub again : {page first : List ℕ} (after : List ℕ) {n m : ℕ} → Laying job page first n → n ≤ length buffer → Laying job buffer after m → Answered job buffer (Ok m) after
   again after {m = m} a room b =
       let same : a.text ≡ b.text = told_once None (entries job) a.text b.text a.lists b.lists in
-      let fits : length b.text ≤ length buffer = omega (arith, a.laid.behind, ap length same, room) in
-      answered b.text after m b.lists (omega (arith, b.laid.behind)) fits (b.laid.over ∙ overlaid_front buffer b.text fits)
+      in_place after b (omega (arith, a.laid.behind, b.laid.behind, ap length same, room))
 
 -- what was laid over a page that is long enough can be read from it
 pub front : {page text after : List ℕ} {n : ℕ} → Laid page 0 text after n → n ≤ length page → take n after ≡ text

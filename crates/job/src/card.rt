@@ -2,6 +2,7 @@
 ghost use Rattle.std.specs.Prelude.{◌≡◌, IfSome};
 ghost use Rattle.std.specs.Option.{option_map};
 ghost use Rattle.tariff.specs.Kinds.{links};
+ghost use Rattle.book.specs.Calls.{greedy_answer};
 ghost use Rattle.book.specs.Plans.{HoldsBest, RouteAnswers};
 ghost use Rattle.job.specs.Records.{bare_call, bare_content};
 ghost use Rattle.job.specs.Lines.{map_of, changed, map_after, Answered, Replied};
@@ -47,14 +48,19 @@ fn call(book: &mut Book<Links>, asked: Call<&[u8]>) -> Reply
         Call::Mark(part, state) => book.mark(part, state)?,
         Call::Choose(row, state) => book.choose(row, state)?,
         Call::Route => return Ok(Some(route(book)?)),
-        Call::Greedy => {
-            // room for the columns of any card
-            let mut columns = [0u8; 4096];
-            return Ok(Some(book.greedy(&mut columns)?));
-        }
+        Call::Greedy => return Ok(Some(greedy(book)?)),
         Call::Judge(sheet) => return Ok(Some(book.judge(sheet)?)),
     }
     Ok(None)
+}
+
+// A function of its own, so that no other record pays for the room that the columns of any card have here.
+#[inline(never)]
+fn greedy(book: &Book<Links>) -> Result<(u32, u32), book::refusal::Refusal>
+    ensures { result ≡ greedy_answer book.now.host links 4096 }
+{
+    let mut columns = [0u8; 4096];
+    book.greedy(&mut columns)
 }
 
 // A plan that is held is best, so there is nothing to search for.

@@ -1,5 +1,6 @@
 //! The lines of a listing, as text.
-ghost use Rattle.std.specs.Prelude.{◌≡◌, ◌<◌, true};
+ghost use Rattle.std.specs.Prelude.{◌≡◌, ◌<◌, ◌≤◌, [], ◌++◌, true};
+ghost use Rattle.arrayvec.specs.ArrayString.{array_string_len};
 ghost use Rattle.std.specs.Fmt.{digit_glyph};
 ghost use Rattle.job.specs.Lines.{at, counts, refused, text};
 
@@ -15,58 +16,64 @@ pub struct Line {
 }
 
 impl Line {
-    /// The text of the line, with its end.
-    // No `Display`: a writer may fail, and what is then written is in no contract; here nothing may fail.
-    pub fn text(self) -> ArrayString<34>
-        ensures { result.bytes ≡ text self }
+    /// Puts the text of the line, with its end, behind an empty one.
+    // No `Display`: a writer may fail, and what is then written is in no contract; here nothing may fail. No result: it would be copied.
+    pub fn put(self, told: &mut ArrayString<34>)
+        requires { told.old.bytes ≡ [] }
+        ensures { told.new.bytes ≡ text self }
     {
-        let mut text = ArrayString::new();
-        text.push(hex(self.kind / 16));
-        text.push(hex(self.kind % 16));
-        text.push(' ');
+        told.push(hex(self.kind / 16));
+        told.push(hex(self.kind % 16));
+        told.push(' ');
         match self.reply {
-            Ok(None) => text.push_str("ok\n"),
-            Ok(Some((columns, total))) => text.push_str(&counts(columns, total)),
-            Err(x) => text.push_str(&refused(u8::from(x), x.place())),
+            Ok(None) => told.push_str("ok\n"),
+            Ok(Some((columns, total))) => put_counts(told, columns, total),
+            Err(x) => put_refused(told, u8::from(x), x.place()),
         }
-        text
     }
 }
 
-/// What is told of columns: their number and total charge.
-fn counts(columns: u32, total: u32) -> ArrayString<22>
-    ensures { result.bytes ≡ counts columns total }
-{
-    let mut text = ArrayString::new();
-    text.push_str(Buffer::new().format(columns));
-    text.push(' ');
-    text.push_str(Buffer::new().format(total));
-    text.push('\n');
-    text
-}
-
 /// What is told of a refusal, and of its place in a sheet.
-pub fn refused(number: u8, place: Option<usize>) -> ArrayString<31>
+pub fn refused(number: u8, place: Option<usize>) -> ArrayString<34>
     ensures { result.bytes ≡ refused number place }
 {
     let mut text = ArrayString::new();
-    text.push_str("no ");
-    text.push_str(Buffer::new().format(number));
-    text.push_str(&at(place));
-    text.push('\n');
+    put_refused(&mut text, number, place);
     text
 }
 
-/// What is told of a place in a sheet.
-fn at(place: Option<usize>) -> ArrayString<24>
-    ensures { result.bytes ≡ at place }
+// Each part is put behind what is there: a text of its own would be copied, and a job asks for many lines.
+fn put_refused(text: &mut ArrayString<34>, number: u8, place: Option<usize>)
+    requires { array_string_len text.old ≤ 3 }
+    ensures { text.new.bytes ≡ text.old.bytes ++ refused number place }
 {
-    let mut text = ArrayString::new();
+    text.push_str("no ");
+    text.push_str(Buffer::new().format(number));
+    put_place(text, place);
+    text.push('\n');
+}
+
+/// What is told of a place in a sheet.
+fn put_place(text: &mut ArrayString<34>, place: Option<usize>)
+    requires { array_string_len text.old ≤ 9 }
+    ensures bytes { text.new.bytes ≡ text.old.bytes ++ at place }
+    ensures room { array_string_len text.new < 34 }
+{
     if let Some(place) = place {
         text.push_str(" at ");
         text.push_str(Buffer::new().format(place));
     }
-    text
+}
+
+/// What is told of columns: their number and total charge.
+fn put_counts(text: &mut ArrayString<34>, columns: u32, total: u32)
+    requires { array_string_len text.old ≤ 3 }
+    ensures { text.new.bytes ≡ text.old.bytes ++ counts columns total }
+{
+    text.push_str(Buffer::new().format(columns));
+    text.push(' ');
+    text.push_str(Buffer::new().format(total));
+    text.push('\n');
 }
 
 /// A capital hexadecimal digit.

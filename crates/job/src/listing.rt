@@ -1,5 +1,5 @@
 //! The listing of a job: a line for each record that is read.
-ghost use Rattle.std.specs.Prelude.{◌≡◌, ◌≤◌, length};
+ghost use Rattle.std.specs.Prelude.{◌≡◌, ◌*◌, ◌≤◌, length};
 ghost use Rattle.job.specs.Listings.{Laying, Answered, Prints, Coded};
 
 use crate::card::apply;
@@ -7,23 +7,29 @@ use crate::line::{Line, refused};
 use crate::page::lay;
 use crate::record::{Entries, Entry};
 use crate::refusal::ListingRefusal;
+use arrayvec::ArrayString;
 use book::Book;
 use tariff::links::Links;
 
 /// The longest job that is listed.
 const LONGEST: usize = 60_000;
 
+/// The most bytes of a line. Each tells of a byte of the job at least.
+const LONGEST_LINE: usize = 34;
+
 /// Writes the lines of a job over a page and answers their length. What the page has no room for is only counted.
 fn write(job: &[u8], page: &mut [u8]) -> usize
     requires { length job.now ≤ 60000 }
-    ensures { Laying job.now page.old page.new result }
+    ensures laid { Laying job.now page.old page.new result }
+    ensures short { result ≤ 34 * length job.now }
 {
     let mut book: Option<Book<Links>> = None;
     let mut used = 0;
     for Entry { kind, content } in Entries(job) {
         let reply = apply(&mut book, content);
-        let line = Line { kind, reply };
-        used = lay(page, used, &line.text());
+        let mut text = ArrayString::new();
+        Line { kind, reply }.put(&mut text);
+        used = lay(page, used, &text);
     }
     used
 }
@@ -36,6 +42,21 @@ pub fn list(job: &[u8], out: &mut [u8]) -> Result<usize, ListingRefusal>
     if job.len() > LONGEST {
         return Err(ListingRefusal::LongJob);
     }
+    // where there is room whatever the lines are, they are written in place
+    if job.len() <= out.len() / LONGEST_LINE {
+        Ok(write(job, out))
+    } else {
+        list_by_page(job, out)
+    }
+}
+
+/// The same where only the listing itself tells whether there is room: it is made on a page of its own.
+// In a frame of its own, so that no other listing needs the stack that the page takes.
+#[inline(never)]
+fn list_by_page(job: &[u8], out: &mut [u8]) -> Result<usize, ListingRefusal>
+    requires { length job.now ≤ 60000 }
+    ensures { Answered job.now out.old result out.new }
+{
     let mut page = [0u8; 65_536];
     let length = write(job, &mut page);
     if length > out.len() {

@@ -10,7 +10,7 @@ use Rattle.job.proofs.listing.write.Goals as goal
 pub loop-kind-init : goal.loop-kind-init
 loop-kind-init c =
     let same : c.args.job.now ≡ c.into_iter-kind-iterator.result.0.now = cc in (
-      omega (arith, length_entries c.into_iter-kind-iterator.result.0.now, ap length same, c.requires),
+      omega (arith, length_entries c.into_iter-kind-iterator.result.0.now, ap length same),
       subst (λ job. Midway c.args.job.now c.args.page.now c.args.page.now 0 None (entries job)) same (begins c.args.job.now c.args.page.now),
       tt,
     )
@@ -29,5 +29,5 @@ loop-kind-preserved c =
       c.apply-reply.ensures.holds,
     )
 
-pub returns : goal.returns
-returns c = laid_all _ c.in-None.ensures.steps.0 c.loop-kind.invariant.1
+pub returns-clause-laid : goal.returns-clause-laid
+returns-clause-laid c = laid_all _ c.in-None.ensures.steps.0 c.loop-kind.invariant.1

@@ -10,5 +10,5 @@ use Rattle.job.proofs.listing.write.Given as goal
 abbrev pub invariant-loop-kind : goal.invariant-loop-kind
 invariant-loop-kind l =
     let left = entries l.kind-iterator.0.now in
-    (l.used + 34 * length left ≤ 34 * 60000) × Midway l.job l.initial.page l.page l.used (option_map map_of l.book) left
+    (l.used + 34 * length left ≤ 34 * length l.job) × Midway l.job l.initial.page l.page l.used (option_map map_of l.book) left
     × IfSome l.book (HoldsBest links)
