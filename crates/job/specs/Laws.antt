@@ -44,7 +44,7 @@ Closed _ = Unit {0}
 abbrev pub Entry : Type 0
 Entry = e.Entry (List ℕ)
 
--- all but a route, for which any best family will do, is answered in one way
+-- the answer to all but a route is given by an equation; a route's tells of some best family
 abbrev pub Fixed : Result Asked Refusal → Type 0
 Fixed (Ok (Call Route)) = ⊥
 Fixed _ = Unit {0}
@@ -67,9 +67,9 @@ pub record Laws : Type 0 where
   pub fault_last : (job : List ℕ) (es fs : List Entry) (e : Entry) (x : Refusal) → entries job ≡ es ++ e ∷ fs → e.content ≡ Err x → fs ≡ []
   -- a job has one listing
   pub one_listing : (job listing other : List ℕ) → Listing job listing → Listing job other → listing ≡ other
-  -- from whichever map, entries have one list of lines
+  -- from whichever map, entries have one list of lines at most
   pub one_list : (before : Option Host) (es : List Entry) (ls ms : List Line) → Lines before es ls → Lines before es ms → ls ≡ ms
-  -- and where each is answered in one way, they have it
+  -- and where none asks for a route, they have one
   pub some_list : (before : Option Host) (es : List Entry) → AllByRecursion (λ (e : Entry). Fixed e.content) es → (ls : List Line) × Lines before es ls
   -- one line for each entry, with its kind
   pub one_each : (before : Option Host) (es : List Entry) (ls : List Line) → Lines before es ls → map (λ (l : Line). l.kind) ls ≡ map (λ (e : Entry). e.kind) es

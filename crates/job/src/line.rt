@@ -16,8 +16,9 @@ pub struct Line {
 }
 
 impl Line {
-    /// Puts the text of the line, with its end, behind an empty one.
-    // No `Display`: a writer may fail, and what is then written is in no contract; here nothing may fail. No result: it would be copied.
+    /// Puts the text of the line, with its end, into an empty text.
+    // No `Display`: a writer may fail, and what is then written is in no contract; here nothing may fail.
+    // The text is lent, as a result would be copied.
     pub fn put(self, told: &mut ArrayString<34>)
         requires { told.old.bytes ≡ [] }
         ensures { told.new.bytes ≡ text self }
@@ -42,6 +43,7 @@ pub fn refused(number: u8, place: Option<usize>) -> ArrayString<34>
     text
 }
 
+/// Puts what is told of a refusal behind a text.
 // Each part is put behind what is there: a text of its own would be copied, and a job asks for many lines.
 fn put_refused(text: &mut ArrayString<34>, number: u8, place: Option<usize>)
     requires { array_string_len text.old ≤ 3 }
@@ -53,7 +55,7 @@ fn put_refused(text: &mut ArrayString<34>, number: u8, place: Option<usize>)
     text.push('\n');
 }
 
-/// What is told of a place in a sheet.
+/// Puts what is told of a place in a sheet behind a text, and leaves room for the line's end.
 fn put_place(text: &mut ArrayString<34>, place: Option<usize>)
     requires { array_string_len text.old ≤ 9 }
     ensures bytes { text.new.bytes ≡ text.old.bytes ++ at place }
@@ -65,7 +67,7 @@ fn put_place(text: &mut ArrayString<34>, place: Option<usize>)
     }
 }
 
-/// What is told of columns: their number and total charge.
+/// Puts what is told of columns behind a text: their number and total charge.
 fn put_counts(text: &mut ArrayString<34>, columns: u32, total: u32)
     requires { array_string_len text.old ≤ 3 }
     ensures { text.new.bytes ≡ text.old.bytes ++ counts columns total }

@@ -14,7 +14,7 @@ use tariff::links::Links;
 /// The longest job that is listed.
 const LONGEST: usize = 60_000;
 
-/// The most bytes of a line. Each tells of a byte of the job at least.
+/// The most bytes of a line. A job has no more lines than bytes.
 const LONGEST_LINE: usize = 34;
 
 /// Writes the lines of a job over a page and answers their length. What the page has no room for is only counted.
